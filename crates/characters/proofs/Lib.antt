@@ -1,0 +1,5 @@
+pub mod Starts
+pub mod Asked
+pub mod Intervals
+pub mod Onward
+pub mod Display
