@@ -169,3 +169,12 @@ module _ (t : Text) (ok : Lawful t) where
     where
       never : {p : Point} {ps : List Point} → [] ≡ p ∷ ps → ⊥
       never e = omega (arith, ap length e)
+
+  -- where a code point starts is a start
+  pub item-start : (i c : ℕ) → item-at t i ≡ Some c → start-from t i ≡ i
+  item-start i c e =
+      ⊎-elim (λ f. absurd (never (sym (f .item) ∙ e)))
+      (λ f. ⊎-elim (λ l. absurd (never (sym (f .none l) ∙ e))) (λ l. let at : f .point .at ≡ i = omega (arith, f .above) in start-first i f ∙ at) (cases-lt i (f .point .at))) (looked i)
+    where
+      never : None ≡ Some c → ⊥
+      never e = let z : _≡_ {A = ℕ} 0 1 = cc in omega arith

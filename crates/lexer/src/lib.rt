@@ -1,0 +1,3 @@
+// The lexer of schedule sheets.
+pub mod class;
+pub mod sheet_lexer;

@@ -1,0 +1,4 @@
+mod Forms
+mod Leads
+mod Texts
+mod Grammar
