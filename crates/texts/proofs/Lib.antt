@@ -1,0 +1,5 @@
+pub mod Kept
+pub mod Laid
+pub mod Row
+pub mod Checked
+pub mod Encoded

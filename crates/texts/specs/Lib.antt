@@ -1,0 +1,4 @@
+pub mod Laid
+pub mod Units
+pub mod Keeps
+pub mod Encoded
