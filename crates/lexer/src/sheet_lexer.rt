@@ -116,7 +116,7 @@ impl<D: InputData + Drop> SheetLexer<D> {
     // A lexer at the front of an input.
     pub fn new(input: D) -> Self
         ensures tokens { λ r. ⌜ Sheet (D·InputData .meaning input) (lexed (D·InputData .meaning (r .input)) (r .at) (r .line) (r .column)) ⌝ }
-        ensures remarks { λ r. ⌜ ToldApart (D·InputData .meaning input) (lexed (D·InputData .meaning (r .input)) (r .at) (r .line) (r .column)) ⌝ }
+        ensures remark_is_never_a_value { λ r. ⌜ ToldApart (D·InputData .meaning input) (lexed (D·InputData .meaning (r .input)) (r .at) (r .line) (r .column)) ⌝ }
         ensures input { λ r. ⌜ r .input ≡ input ⌝ }
     {
         let at = input.start_from(0);

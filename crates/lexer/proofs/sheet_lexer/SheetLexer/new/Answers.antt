@@ -17,4 +17,4 @@ returns g c =
     let t = input .meaning (c .args .input) in
     let ok = input .lawful (c .args .input) in
     let tokens = sheet t ok _ (c .start-from-at .ensures .value) in
-    record { tokens = tokens; remarks = told-apart t ok _ tokens; input = refl }
+    record { tokens = tokens; remark-is-never-a-value = told-apart t ok _ tokens; input = refl }

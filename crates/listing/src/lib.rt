@@ -1,0 +1,3 @@
+// The listing of a sheet's tokens, as text.
+pub mod lines;
+pub mod sheet;
