@@ -21,8 +21,8 @@ pub enum Class {
     Other,
 }
 
-// The class of each symbol below 128.
-const CLASSES: [Class; 128] = [
+// The class of each symbol below 128. It stands in memory once, where a `const` would be copied at each read.
+static CLASSES: [Class; 128] = [
     Other,
     Other,
     Other,

@@ -72,6 +72,14 @@ pub impl<'a> InputData for Utf8Text<'a> as Utf8TextInputData {
         if at >= self.bytes.len() {
             return None;
         }
+        // Most of a sheet is ASCII, which needs no further look.
+        let lead = self.bytes[at];
+        if lead < 0x80 {
+            return Some(CodePoint {
+                code: u32::from(lead),
+                next: at + 1,
+            });
+        }
         match utf8::front(&self.bytes[at..]) {
             Some((code, rest)) => Some(CodePoint {
                 code,

@@ -21,11 +21,16 @@ pub fn check(bytes: &[u8]) -> Result<(), Refusal>
         return Err(Refusal::TooLong);
     }
     let mut rest = bytes;
-    'walk: while !rest.is_empty() {
-        let Some((_, after)) = front(rest) else {
+    'walk: while let [lead, after @ ..] = rest {
+        // Most of a sheet is ASCII, which needs no further look.
+        if *lead < 0x80 {
+            rest = after;
+            continue;
+        }
+        let Some((_, next)) = front(rest) else {
             return Err(Refusal::BadText);
         };
-        rest = after;
+        rest = next;
     }
     Ok(())
 }
