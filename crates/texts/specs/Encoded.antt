@@ -1,13 +1,14 @@
 -- Texts in UTF-8, where a code point starts at the first of its bytes. Assumes nothing.
-use mathlib.Core.Bool.{Bool, _&&_}
+use mathlib.Core.Bool.{Bool, true, _&&_}
 use mathlib.Core.List.{List}
 use mathlib.Core.Path.{_≡_}
 use Prim.Native.Nat.{ℕ, _≤_}
 use lib.Dec.{leb}
 use lib.ListN.{length}
+use lib.Utf8.{scalars, encodes}
 use Rattle.std.specs.Text.{width}
 use Rattle.std.specs.shelf.Text.{decodes}
-use Rattle.characters.specs.Text.{Text, empty}
+use Rattle.characters.specs.Text.{Text, empty, codes}
 use Rattle.utf8.specs.Rfc3629.{Octets}
 use Rattle.texts.specs.Laid.{laid-out}
 
@@ -24,7 +25,9 @@ pub record Readable (bytes : List ℕ) : Type 0 where
   pub few : length bytes ≤ 65536
   pub formed : Octets bytes
 
--- t is the text of the bytes; where they cannot be read, it is empty
+-- t is the text of the bytes: its code points are scalar values whose encodings, one after the other, are the bytes;
+-- where they cannot be read, it is empty
 pub record Reads (bytes : List ℕ) (t : Text) : Type 0 where
   pub whole : Readable bytes → t ≡ encoded-text bytes
+  pub decoded : Readable bytes → (encodes (codes t) ≡ bytes) × (scalars (codes t) ≡ true)
   pub else-empty : (Readable bytes → ⊥) → t ≡ empty
