@@ -1,3 +1,4 @@
+pub mod Kept
 pub mod Starts
 pub mod Asked
 pub mod Intervals

@@ -1,19 +1,21 @@
 -- What is left of a text from a position on. Assumes nothing.
-use mathlib.Core.Path.{_≡_, refl, sym, ap, subst, _∙_}
+use mathlib.Core.Path.{_≡_, refl, sym, ap, _∙_}
 use mathlib.Core.Bool.{Bool, true, false, cond}
 use mathlib.Core.Logic.{_⊎_, inl, inr, ⊎-elim}
 use mathlib.Core.List.{List, [], _∷_, _++_, map}
-use Prim.Native.Nat.{ℕ, zero, suc, _+_, _-_, _≤_, _<_}
+use Prim.Native.Nat.{ℕ, suc, _≤_, _<_}
 use native.Mathlib.Omega.{arith}
-use lib.Dec.{leb, ltb, eqb}
+use lib.Dec.{leb, eqb}
 use lib.ListN.{length, getD}
 use Rattle.std.specs.Finite.{nth}
 use Rattle.std.specs.shelf.Lists.{kept-by}
 use Rattle.std.proofs.shelf.Elements.{kept-by-append}
-use Rattle.std.proofs.shelf.Tests.{le-leb, lt-leb, ne-eqb, eq-eqb, cases-lt, cases-eq}
+use Rattle.std.proofs.shelf.Tests.{le-leb, lt-leb, ne-eqb, eq-eqb, cases-lt}
 use Rattle.std.specs.declared.option.Option.{Option}
 use Rattle.std.specs.declared.option.Option.the-variants.{Some, None}
-use Rattle.characters.specs.Text.{Point, Text, Rises, Lawful, starts, start-from, item-at}
+use Rattle.characters.specs.Text.{Point, Text, Rises, Lawful, start-from, item-at}
+use Rattle.characters.proofs.Kept.{keeps, leaves}
+use Rattle.characters.proofs.Starts.{rises-under}
 
 -- the code points at or after a position
 abbrev pub from : ℕ → List Point → List Point
@@ -25,13 +27,6 @@ onward t i = from i (t .points)
 -- the code of the first that stands at a position
 abbrev pub item-of : List Point → ℕ → Option ℕ
 item-of ps i = nth (map (λ p. p .code) (kept-by (λ p. eqb i (p .at)) ps)) 0
-
--- what a test keeps, by what it says of the first
-keeps : (test : Point → Bool) (x : Point) (xs : List Point) → test x ≡ true → kept-by test (x ∷ xs) ≡ x ∷ kept-by test xs
-keeps test x xs e = rw e
-
-leaves : (test : Point → Bool) (x : Point) (xs : List Point) → test x ≡ false → kept-by test (x ∷ xs) ≡ kept-by test xs
-leaves test x xs e = rw e
 
 from-skips : (i : ℕ) (x : Point) (xs : List Point) → x .at < i → from i (x ∷ xs) ≡ from i xs
 from-skips i x xs l = leaves (λ p. leb i (p .at)) x xs (lt-leb i (x .at) l)
@@ -109,11 +104,6 @@ map-from i (p ∷ ps) = go (leb i (p .at)) refl (map-from i ps)
 -- the first start from i on stands at the front of what is left
 pub start-from-onward : (t : Text) (i : ℕ) → start-from t i ≡ getD (map (λ p. p .at) (onward t i) ++ kept-by (leb i) (t .size ∷ [])) 0 (t .size)
 start-from-onward t i = ap (λ l. getD l 0 (t .size)) (kept-by-append (leb i) (map (λ p. p .at) (t .points)) (t .size ∷ []) ∙ ap (λ l. l ++ kept-by (leb i) (t .size ∷ [])) (map-from i (t .points)))
-
--- the size bounds every position
-pub rises-under : (low : ℕ) (ps : List Point) (size : ℕ) → Rises low ps size → low ≤ size
-rises-under low [] size h = h
-rises-under low (p ∷ ps) size h = omega (arith, h .0, rises-under (suc (p .at)) ps size (h .1))
 
 none-from : (low : ℕ) (ps : List Point) (size i : ℕ) → Rises low ps size → size ≤ i → from i ps ≡ []
 none-from low [] size i h l = refl

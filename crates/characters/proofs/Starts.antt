@@ -1,21 +1,21 @@
 -- Steps over the starts of a text. Assumes nothing.
 use mathlib.Core.Path.{_≡_, refl, sym, ap, subst, _∙_}
-use mathlib.Core.Bool.{Bool, true, false, cond}
 use mathlib.Core.Logic.{_⊎_, inl, inr, ⊎-elim}
 use mathlib.Core.List.{List, [], _∷_, _++_, map, reverse}
 use Prim.Native.Nat.{ℕ, zero, suc, _+_, _-_, _≤_, _<_}
 use native.Mathlib.Omega.{arith}
 use native.Mathlib.Numerals.{add-one}
-use lib.Dec.{leb, ltb, eqb}
+use lib.Dec.{leb, ltb}
 use lib.ListN.{length, getD, length-append}
 use Rattle.std.specs.Finite.{nth}
 use Rattle.std.specs.shelf.Lists.{All, kept-by}
 use Rattle.std.proofs.shelf.Elements.{kept-by-append, all-kept-by}
 use Rattle.std.proofs.shelf.Lists.{reverse-append}
-use Rattle.std.proofs.shelf.Tests.{leb-true, leb-false, le-leb, lt-leb, cases-bool, cases-lt}
+use Rattle.std.proofs.shelf.Tests.{le-leb, lt-leb, cases-lt}
 use Rattle.std.specs.declared.option.Option.{Option}
 use Rattle.std.specs.declared.option.Option.the-variants.{Some, None}
 use Rattle.characters.specs.Text.{Point, Text, Rises, Lawful, starts, start-from, on, back}
+use Rattle.characters.proofs.Kept.{keeps, leaves}
 
 -- rising numbers, the first at least low
 abbrev pub Climbs : ℕ → List ℕ → Type 0
@@ -26,12 +26,10 @@ pub starts-climb : (low : ℕ) (ps : List Point) (size : ℕ) → Rises low ps s
 starts-climb low [] size h = (h, tt)
 starts-climb low (p ∷ ps) size h = (h .0, starts-climb (suc (p .at)) ps size (h .1))
 
--- what a test keeps, by what it says of the first
-keeps : (p : ℕ → Bool) (x : ℕ) (xs : List ℕ) → p x ≡ true → kept-by p (x ∷ xs) ≡ x ∷ kept-by p xs
-keeps p x xs e = rw e
-
-leaves : (p : ℕ → Bool) (x : ℕ) (xs : List ℕ) → p x ≡ false → kept-by p (x ∷ xs) ≡ kept-by p xs
-leaves p x xs e = rw e
+-- the size bounds every position
+pub rises-under : (low : ℕ) (ps : List Point) (size : ℕ) → Rises low ps size → low ≤ size
+rises-under low [] size h = h
+rises-under low (p ∷ ps) size h = omega (arith, h .0, rises-under (suc (p .at)) ps size (h .1))
 
 pub all-above : (i low : ℕ) (xs : List ℕ) → Climbs low xs → i ≤ low → kept-by (leb i) xs ≡ xs
 all-above i low [] h k = refl
@@ -119,12 +117,8 @@ neighbours (x ∷ xs) low i q ys h less e = ⊎-elim (λ l. earlier l (neighbour
 none-past : (low : ℕ) (ps : List Point) (size i : ℕ) → Rises low ps size → size < i → kept-by (leb i) (map (λ p. p .at) ps ++ size ∷ []) ≡ []
 none-past low [] size i h l = leaves (leb i) size [] (lt-leb i size l)
 none-past low (p ∷ ps) size i h l =
-    let below : p .at < i = omega (arith, under (suc (p .at)) ps (h .1)) in
+    let below : p .at < i = omega (arith, rises-under (suc (p .at)) ps size (h .1)) in
     leaves (leb i) (p .at) _ (lt-leb i (p .at) below) ∙ none-past (suc (p .at)) ps size i (h .1) l
-  where
-    under : (low : ℕ) (ps : List Point) → Rises low ps size → low ≤ size
-    under low [] h = h
-    under low (p ∷ ps) h = omega (arith, h .0, under (suc (p .at)) ps (h .1))
 
 size-kept : (xs : List ℕ) (size i : ℕ) → i ≤ size → kept-by (leb i) (xs ++ size ∷ []) ≡ [] → ⊥
 size-kept xs size i h e =
@@ -199,13 +193,9 @@ module _ (t : Text) (ok : Lawful t) where
   starts-within : All (λ s. s ≤ t .size) (starts t)
   starts-within = go 0 (t .points) (ok .rises)
     where
-      under : (low : ℕ) (ps : List Point) → Rises low ps (t .size) → low ≤ t .size
-      under low [] h = h
-      under low (p ∷ ps) h = omega (arith, h .0, under (suc (p .at)) ps (h .1))
-
       go : (low : ℕ) (ps : List Point) → Rises low ps (t .size) → All (λ s. s ≤ t .size) (map (λ p. p .at) ps ++ t .size ∷ [])
       go low [] h = (omega arith, tt)
-      go low (p ∷ ps) h = (omega (arith, under (suc (p .at)) ps (h .1)), go (suc (p .at)) ps (h .1))
+      go low (p ∷ ps) h = (omega (arith, rises-under (suc (p .at)) ps (t .size) (h .1)), go (suc (p .at)) ps (h .1))
 
   pub start-from-within : (i : ℕ) → start-from t i ≤ t .size
   start-from-within i = go _ (all-kept-by (leb i) (λ s. s ≤ t .size) (starts t) starts-within)

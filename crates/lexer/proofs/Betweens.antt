@@ -3,20 +3,21 @@ use mathlib.Core.Path.{_≡_, refl, sym, ap, subst, fun-ext, _∙_}
 use mathlib.Core.Bool.{Bool, true, false, cond, _&&_}
 use mathlib.Core.Logic.{_⊎_, inl, inr, ⊎-elim}
 use mathlib.Core.List.{List, [], _∷_, _++_, map}
-use Prim.Native.Nat.{ℕ, zero, suc, _+_, _-_, _≤_, _<_}
+use Prim.Native.Nat.{ℕ, suc, _+_, _≤_, _<_}
 use native.Mathlib.Omega.{arith}
 use lib.Dec.{leb, ltb}
-use lib.ListN.{length, take, drop, length-append, length-drop, length-map}
-use lib.Seq.{length-take-le}
-use Rattle.std.specs.shelf.Lists.{kept-by}
-use Rattle.std.proofs.shelf.Lists.{map-append, take-at, take-map}
-use Rattle.std.proofs.shelf.Elements.{kept-by-append}
+use lib.ListN.{length, take, length-append, length-drop, length-map}
+use Rattle.std.specs.shelf.Lists.{All, kept-by}
+use Rattle.std.proofs.shelf.Lists.{append-cancel-right, map-append, take-at, take-map}
+use Rattle.std.proofs.shelf.Elements.{kept-by-append, all-has, has-append-right}
 use Rattle.std.proofs.shelf.Sums.{length-kept-by, countBy-le-length}
 use Rattle.std.proofs.shelf.Tests.{le-leb, lt-leb, lt-ltb, le-ltb, and-from, and-left, and-right, cases-lt}
 use Rattle.std.specs.declared.option.Option.{Option}
 use Rattle.std.specs.declared.option.Option.the-variants.{Some, None}
 use Rattle.characters.specs.Text.{Point, Text, Rises, Lawful, moved-down, start-from, item-at}
-use Rattle.characters.proofs.Onward.{from, from-all, onward-some, onward-none, onward-start}
+use Rattle.characters.proofs.Kept.{keeps, leaves, kept-both}
+use Rattle.characters.proofs.Starts.{start-from-above}
+use Rattle.characters.proofs.Onward.{from, from-all, onward-some, onward-none, onward-start, item-within}
 use Rattle.lexer.specs.Sheets.{between}
 use Rattle.lexer.specs.Lexed.{codes-of}
 use Rattle.lexer.specs.Passed.{Passed, onward, rest}
@@ -25,26 +26,12 @@ use Rattle.lexer.specs.Passed.{Passed, onward, rest}
 abbrev pub upto : ℕ → List Point → List Point
 upto k ps = kept-by (λ p. ltb (p .at) k) ps
 
-keeps : (test : Point → Bool) (x : Point) (xs : List Point) → test x ≡ true → kept-by test (x ∷ xs) ≡ x ∷ kept-by test xs
-keeps test x xs e = rw e
-
-leaves : (test : Point → Bool) (x : Point) (xs : List Point) → test x ≡ false → kept-by test (x ∷ xs) ≡ kept-by test xs
-leaves test x xs e = rw e
-
--- two tests at once are one after the other
-kept-both : (a b : Point → Bool) (ps : List Point) → kept-by (λ p. a p && b p) ps ≡ kept-by b (kept-by a ps)
-kept-both a b [] = refl
-kept-both a b (p ∷ ps) = go (a p) refl (b p) refl (kept-both a b ps)
-  where
-    go : (x : Bool) → a p ≡ x → (y : Bool) → b p ≡ y → kept-by (λ p. a p && b p) ps ≡ kept-by b (kept-by a ps) → cond (x && b p) (p ∷ kept-by (λ p. a p && b p) ps) (kept-by (λ p. a p && b p) ps) ≡ kept-by b (cond x (p ∷ kept-by a ps) (kept-by a ps))
-    go true e true f rest = ap (λ y. cond y (p ∷ kept-by (λ p. a p && b p) ps) (kept-by (λ p. a p && b p) ps)) f ∙ ap (λ l. p ∷ l) rest ∙ sym (keeps b p (kept-by a ps) f)
-    go true e false f rest = ap (λ y. cond y (p ∷ kept-by (λ p. a p && b p) ps) (kept-by (λ p. a p && b p) ps)) f ∙ rest ∙ sym (leaves b p (kept-by a ps) f)
-    go false e y f rest = rest
-
+-- to move points down keeps their codes
 codes-moved : (i : ℕ) (ps : List Point) → map (λ p. p .code) (map (moved-down i) ps) ≡ codes-of ps
 codes-moved i [] = refl
 codes-moved i (p ∷ ps) = ap (λ l. p .code ∷ l) (codes-moved i ps)
 
+-- the symbols from i to j are those from i on that stand below j
 pub between-is : (t : Text) (i j : ℕ) → between t i j ≡ codes-of (upto j (onward t i))
 between-is t i j = codes-moved i _ ∙ ap codes-of (kept-both (λ p. leb i (p .at)) (λ p. ltb (p .at) j) (t .points))
 
@@ -67,6 +54,7 @@ cut low (p ∷ ps) size k h = ⊎-elim (below (cut (suc (p .at)) ps size k (h .1
     above : k ≤ p .at → p ∷ ps ≡ upto k (p ∷ ps) ++ from k (p ∷ ps)
     above l = (λ i. sym (upto-none (p .at) (p ∷ ps) size k (omega arith, h .1) l) i ++ sym (from-all (p .at) (p ∷ ps) size k (omega arith, h .1) l) i)
 
+-- what rises from a position on rises from a lower one on
 rises-low : (low least : ℕ) (ps : List Point) (size : ℕ) → least ≤ low → Rises low ps size → Rises least ps size
 rises-low low least [] size l h = omega (arith, h)
 rises-low low least (p ∷ ps) size l h = (omega (arith, h .0), h .1)
@@ -80,7 +68,7 @@ from-rises low (p ∷ ps) size i h = go (leb i (p .at)) (from-rises (suc (p .at)
     go true rest = (h .0, rest)
     go false rest = rises-low (suc (p .at)) low (from i ps) size (omega (arith, h .0)) rest
 
--- the stricter of two bounds decides
+-- of two bounds the stricter decides
 from-from : (ps : List Point) (i j : ℕ) → i ≤ j → from j (from i ps) ≡ from j ps
 from-from ps i j h = sym (kept-both (λ p. leb i (p .at)) (λ p. leb j (p .at)) ps) ∙ ap (λ test. kept-by test ps) (fun-ext (λ p. go (p .at) (cases-lt (p .at) j)))
   where
@@ -88,6 +76,7 @@ from-from ps i j h = sym (kept-both (λ p. leb i (p .at)) (λ p. leb j (p .at)) 
     go x (inl l) = and-right (leb i x) (leb j x) (lt-leb j x l) ∙ sym (lt-leb j x l)
     go x (inr l) = and-from (leb i x) (leb j x) (le-leb i x (omega arith)) (le-leb j x l) ∙ sym (le-leb j x l)
 
+-- and so it does from above
 upto-upto : (ps : List Point) (i j : ℕ) → i ≤ j → upto j (upto i ps) ≡ upto i ps
 upto-upto ps i j h = sym (kept-both (λ p. ltb (p .at) i) (λ p. ltb (p .at) j) ps) ∙ ap (λ test. kept-by test ps) (fun-ext (λ p. go (p .at) (cases-lt (p .at) i)))
   where
@@ -95,6 +84,7 @@ upto-upto ps i j h = sym (kept-both (λ p. ltb (p .at) i) (λ p. ltb (p .at) j) 
     go x (inl l) = and-from (ltb x i) (ltb x j) (lt-ltb x i l) (lt-ltb x j (omega arith)) ∙ sym (lt-ltb x i l)
     go x (inr l) = and-left (ltb x i) (ltb x j) (le-ltb x i l) ∙ sym (le-ltb x i l)
 
+-- from a later position on there are no more points than from an earlier one
 from-shorter : (ps : List Point) (i j : ℕ) → i ≤ j → length (from j ps) ≤ length (from i ps)
 from-shorter ps i j h = omega (arith, ap length (from-from ps i j h), length-kept-by (λ p. leb j (p .at)) (from i ps), countBy-le-length (λ p. leb j (p .at)) (from i ps))
 
@@ -103,6 +93,7 @@ module _ (t : Text) (ok : Lawful t) where
   cut-at : (i k : ℕ) → i ≤ k → onward t i ≡ upto k (onward t i) ++ onward t k
   cut-at i k h = cut 0 (onward t i) (t .size) k (from-rises 0 (t .points) (t .size) i (ok .rises)) ∙ ap (λ l. upto k (onward t i) ++ l) (from-from (t .points) i k h)
 
+  -- the points from i to k are a front of those from i on
   pub upto-take : (i k : ℕ) → i ≤ k → upto k (onward t i) ≡ take (length (upto k (onward t i))) (onward t i)
   upto-take i k h = sym (take-at (upto k (onward t i)) (onward t k) _ refl) ∙ ap (take (length (upto k (onward t i)))) (sym (cut-at i k h))
 
@@ -139,8 +130,53 @@ module _ (t : Text) (ok : Lawful t) where
           go None e = absurd (omega (arith, onward-none t ok i s e .1))
           go (Some c) e = (c, e)
 
+  -- a piece cut at a position
+  pub between-cut : (i j k : ℕ) → i ≤ j → j ≤ k → between t i k ≡ between t i j ++ between t j k
+  between-cut i j k l h =
+      between-is t i k ∙ ap codes-of (ap (upto k) (cut-at i j l) ∙ kept-by-append (λ p. ltb (p .at) k) (upto j (onward t i)) (onward t j) ∙ ap (λ l. l ++ upto k (onward t j)) (upto-upto (onward t i) j k h))
+      ∙ map-append (λ p. p .code) (upto j (onward t i)) (upto k (onward t j)) ∙ (λ n. sym (between-is t i j) n ++ sym (between-is t j k) n)
+
   -- from the front to a position, and on to another
   pub between-both : (i j : ℕ) → i ≤ j → between t 0 j ≡ between t 0 i ++ between t i j
-  between-both i j h =
-      between-is t 0 j ∙ ap codes-of (ap (upto j) (cut-at 0 i (omega arith)) ∙ kept-by-append (λ p. ltb (p .at) j) (upto i (onward t 0)) (onward t i) ∙ ap (λ l. l ++ upto j (onward t i)) (upto-upto (onward t 0) i j h))
-      ∙ map-append (λ p. p .code) (upto i (onward t 0)) (upto j (onward t i)) ∙ (λ k. sym (between-is t 0 i) k ++ sym (between-is t i j) k)
+  between-both i j h = between-cut 0 i j (omega arith) h
+
+  -- from a position to itself there is nothing
+  between-none : (i : ℕ) → between t i i ≡ []
+  between-none i = between-is t i i ∙ ap codes-of (sym (append-cancel-right [] (upto i (onward t i)) (onward t i) (cut-at i i (omega arith))))
+
+  -- a piece that begins at a symbol is that symbol, and then the piece from the next start on
+  between-some : (i j c : ℕ) → item-at t i ≡ Some c → i < j → between t i j ≡ c ∷ between t (start-from t (suc i)) j
+  between-some i j c e l =
+      let next = start-from t (suc i) in
+      between-is t i j ∙ ap codes-of (ap (upto j) (onward-some t ok i c e) ∙ keeps (λ p. ltb (p .at) j) _ (onward t next) (lt-ltb i j l)) ∙ ap (λ l. c ∷ l) (sym (between-is t next j))
+
+  -- one symbol more
+  pub between-more : (i j c : ℕ) → i ≤ j → item-at t j ≡ Some c → between t i (start-from t (suc j)) ≡ between t i j ++ c ∷ []
+  between-more i j c l e =
+      let next = start-from t (suc j) in
+      let above : j < next = start-from-above t ok (suc j) (item-within t ok j c e) in
+      between-cut i j next l (omega arith) ∙ ap (λ l. between t i j ++ l) (between-some j next c e above ∙ ap (λ l. c ∷ l) (between-none next))
+
+  -- the first symbol of a piece that begins at a start stands there
+  pub between-first : (i j c : ℕ) (cs : List ℕ) → start-from t i ≡ i → i < j → between t i j ≡ c ∷ cs → item-at t i ≡ Some c
+  between-first i j c cs s l e = go (item-at t i) refl
+    where
+      go : (o : Option ℕ) → item-at t i ≡ o → item-at t i ≡ Some c
+      go None f = absurd (omega (arith, ap length (sym e ∙ between-is t i j ∙ ap (λ l. codes-of (upto j l)) (onward-none t ok i s f .0))))
+      go (Some d) f = let same : d ≡ c = cc (sym (between-some i j d f l) ∙ e) in f ∙ ap Some same
+
+  -- what holds of all symbols of a piece holds of the one at a position in it
+  pub all-between : (P : ℕ → Type 0) (i j p c : ℕ) → All P (between t i j) → item-at t p ≡ Some c → i ≤ p → p < j → P c
+  all-between P i j p c a e l m =
+      let rest = between t (start-from t (suc p)) j in
+      let is = between-cut i p j l (omega arith) ∙ ap (λ l. between t i p ++ l) (between-some p j c e m) in
+      all-has P (between t i p ++ c ∷ rest) c (subst (All P) is a) (has-append-right (between t i p) (c ∷ rest) c (0, omega arith, λ d. refl))
+
+  -- no symbol stands before the first start
+  pub none-before : (p c : ℕ) → item-at t p ≡ Some c → start-from t 0 ≤ p
+  none-before p c e = ⊎-elim (λ l. absurd (never l)) (λ l. l) (cases-lt p (start-from t 0))
+    where
+      never : p < start-from t 0 → ⊥
+      never l =
+          let one = ap length (onward-some t ok p c e ∙ ap (λ l. record { at = p; code = c } ∷ l) (onward-start t ok (suc p))) in
+          omega (arith, one, ap length (onward-start t ok 0), from-shorter (t .points) 0 p (omega arith), from-shorter (t .points) (suc p) (start-from t 0) l)

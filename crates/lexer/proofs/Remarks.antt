@@ -2,23 +2,21 @@
 use mathlib.Core.Path.{_≡_, refl, sym, ap, subst, _∙_}
 use mathlib.Core.Bool.{Bool, true, false, _&&_}
 use mathlib.Core.Logic.{_⊎_, inl, inr, ⊎-elim}
-use mathlib.Core.List.{List, [], _∷_, _++_, map}
+use mathlib.Core.List.{List, [], _∷_, _++_}
 use Prim.Native.Nat.{ℕ, zero, suc, _≤_, _<_}
 use native.Mathlib.Omega.{arith}
-use lib.Dec.{leb, ltb, eqb}
+use lib.Dec.{leb}
 use lib.IntN.{pos}
-use lib.ListN.{length}
 use lib.Signed.{leZ}
-use Rattle.std.specs.Finite.{nth}
 use Rattle.std.specs.shelf.Lists.{All, kept-by}
-use Rattle.std.proofs.shelf.Lists.{append-assoc, append-cancel-right, length-append, map-push}
 use Rattle.std.proofs.shelf.Elements.{all-append, all-push, all-weaker}
-use Rattle.std.proofs.shelf.Tests.{false≢true, true≢false, leb-true, le-leb, lt-leb, lt-ltb, le-ltb, eq-eqb, ne-eqb, and-parts, and-from, and-left, and-right, cases-lt, cases-eq}
+use Rattle.std.proofs.shelf.Tests.{false≢true, true≢false, leb-true, le-leb, lt-leb, ne-eqb, and-parts, and-from, and-left, and-right, cases-lt, cases-eq}
 use Rattle.std.specs.declared.option.Option.{Option}
 use Rattle.std.specs.declared.option.Option.the-variants.{Some, None}
-use Rattle.characters.specs.Text.{Point, Text, Rises, Lawful, start-from, item-at, moved-down}
+use Rattle.characters.specs.Text.{Text, Lawful, start-from, item-at}
+use Rattle.characters.proofs.Kept.{keeps, leaves}
 use Rattle.characters.proofs.Starts.{start-from-within, start-from-above, start-from-start}
-use Rattle.characters.proofs.Onward.{from, onward, item-of, from-all, onward-start, onward-some, onward-none, item-within}
+use Rattle.characters.proofs.Onward.{onward-none, item-within}
 use Rattle.tokens.specs.declared.token.Token.{Token}
 use Rattle.tokens.specs.Tokens.{is-eof}
 use Rattle.lexer.specs.declared.class.Class.the-variants.{Hash, Other}
@@ -26,136 +24,7 @@ use Rattle.lexer.specs.Classes.{letter, digit, line-feed, blank, class}
 use Rattle.lexer.specs.Lexemes.{Lexeme, word, whole, decimal, newline, space, remark, other, channel}
 use Rattle.lexer.specs.Sheets.{between, before, token, eof, Match, Tokens, ended, then, Sheet}
 use Rattle.lexer.specs.Remarks.{InRemark, covers, Apart, ToldApart}
-
--- what a test keeps, by what it says of the first
-keeps : {X : Type 0} (test : X → Bool) (x : X) (xs : List X) → test x ≡ true → kept-by test (x ∷ xs) ≡ x ∷ kept-by test xs
-keeps test x xs e = rw e
-
-leaves : {X : Type 0} (test : X → Bool) (x : X) (xs : List X) → test x ≡ false → kept-by test (x ∷ xs) ≡ kept-by test xs
-leaves test x xs e = rw e
-
--- the points from one position to another
-abbrev inner : ℕ → ℕ → Point → Bool
-inner i j p = leb i (p .at) && ltb (p .at) j
-
-abbrev middle : ℕ → ℕ → List Point → List Point
-middle i j ps = kept-by (inner i j) ps
-
-abbrev code-list : List Point → List ℕ
-code-list ps = map (λ p. p .code) ps
-
-abbrev first-code : List Point → Option ℕ
-first-code ps = nth (code-list ps) 0
-
--- to move points down keeps their codes
-codes-moved : (i : ℕ) (ps : List Point) → code-list (map (moved-down i) ps) ≡ code-list ps
-codes-moved i [] = refl
-codes-moved i (p ∷ ps) = ap (λ l. p .code ∷ l) (codes-moved i ps)
-
-pub between-is : (t : Text) (i j : ℕ) → between t i j ≡ code-list (middle i j (t .points))
-between-is t i j = codes-moved i (middle i j (t .points))
-
-inner-yes : (i j : ℕ) (p : Point) → i ≤ p .at → p .at < j → inner i j p ≡ true
-inner-yes i j p l m = and-from (leb i (p .at)) (ltb (p .at) j) (le-leb i (p .at) l) (lt-ltb (p .at) j m)
-
--- what holds of all symbols from i to j holds of the one at a position between them
-all-middle : (P : ℕ → Type 0) (i j p c : ℕ) (ps : List Point) → All P (code-list (middle i j ps)) → item-of ps p ≡ Some c → i ≤ p → p < j → P c
-all-middle P i j p c [] a e l m = let z : _≡_ {A = ℕ} 0 1 = cc in absurd (omega arith)
-all-middle P i j p c (x ∷ xs) a e l m = ⊎-elim here (λ apart. all-middle P i j p c xs (later (inner i j x) refl) (skip apart) l m) (cases-eq p (x .at))
-  where
-    here : p ≡ x .at → P c
-    here at =
-        let first : item-of (x ∷ xs) p ≡ Some (x .code) = ap first-code (keeps (λ q. eqb p (q .at)) x xs (eq-eqb p (x .at) at)) in
-        let code : x .code ≡ c = cc in
-        let kept = ap code-list (keeps (inner i j) x xs (inner-yes i j x (omega arith) (omega arith))) in
-        subst P code (subst (All P) kept a .0)
-
-    later : (b : Bool) → inner i j x ≡ b → All P (code-list (middle i j xs))
-    later true k = subst (All P) (ap code-list (keeps (inner i j) x xs k)) a .1
-    later false k = subst (All P) (ap code-list (leaves (inner i j) x xs k)) a
-
-    skip : (p ≡ x .at → ⊥) → item-of xs p ≡ Some c
-    skip apart = sym (ap first-code (leaves (λ q. eqb p (q .at)) x xs (ne-eqb p (x .at) apart))) ∙ e
-
--- from j on nothing is below j
-middle-none : (i j low : ℕ) (ps : List Point) (size : ℕ) → Rises low ps size → j ≤ low → middle i j ps ≡ []
-middle-none i j low [] size h l = refl
-middle-none i j low (x ∷ xs) size h l =
-    let past : j ≤ x .at = omega (arith, h .0) in
-    leaves (inner i j) x xs (and-right (leb i (x .at)) (ltb (x .at) j) (le-ltb (x .at) j past)) ∙ middle-none i j (suc (x .at)) xs size (h .1) (omega arith)
-
--- the points from i on are those from i to j, and then those from j on
-middle-then : (i j low : ℕ) (ps : List Point) (size : ℕ) → Rises low ps size → i ≤ j → middle i j ps ++ from j ps ≡ from i ps
-middle-then i j low [] size h l = refl
-middle-then i j low (x ∷ xs) size h l = ⊎-elim (earlier (middle-then i j (suc (x .at)) xs size (h .1) l)) past (cases-lt (x .at) j)
-  where
-    earlier : middle i j xs ++ from j xs ≡ from i xs → x .at < j → middle i j (x ∷ xs) ++ from j (x ∷ xs) ≡ from i (x ∷ xs)
-    earlier later m = ⊎-elim
-        (λ k.
-        ap (λ l. l ++ from j (x ∷ xs)) (leaves (inner i j) x xs (and-left (leb i (x .at)) (ltb (x .at) j) (lt-leb i (x .at) k)))
-        ∙ ap (λ l. middle i j xs ++ l) skips ∙ later ∙ sym (leaves (λ p. leb i (p .at)) x xs (lt-leb i (x .at) k)))
-        (λ k.
-        ap (λ l. l ++ from j (x ∷ xs)) (keeps (inner i j) x xs (inner-yes i j x k m))
-        ∙ ap (λ l. x ∷ (middle i j xs ++ l)) skips ∙ ap (λ l. x ∷ l) later ∙ sym (keeps (λ p. leb i (p .at)) x xs (le-leb i (x .at) k)))
-        (cases-lt (x .at) i)
-      where
-        skips : from j (x ∷ xs) ≡ from j xs
-        skips = leaves (λ p. leb j (p .at)) x xs (lt-leb j (x .at) m)
-
-    all : (k : ℕ) → k ≤ x .at → from k (x ∷ xs) ≡ x ∷ xs
-    all k m = from-all (x .at) (x ∷ xs) size k (omega arith, h .1) m
-
-    past : j ≤ x .at → middle i j (x ∷ xs) ++ from j (x ∷ xs) ≡ from i (x ∷ xs)
-    past m = ap (λ l. l ++ from j (x ∷ xs)) (middle-none i j (x .at) (x ∷ xs) size (omega arith, h .1) m) ∙ all j m ∙ sym (all i (omega arith))
-
--- what holds of a text's symbols from i to j holds of the one at a position between them
-pub all-part : (P : ℕ → Type 0) (t : Text) (i j p c : ℕ) → All P (between t i j) → item-at t p ≡ Some c → i ≤ p → p < j → P c
-all-part P t i j p c a e l m = all-middle P i j p c (t .points) (subst (All P) (between-is t i j) a) e l m
-
-module _ (t : Text) (ok : Lawful t) where
-  split : (i j : ℕ) → i ≤ j → middle i j (t .points) ++ onward t j ≡ onward t i
-  split i j l = middle-then i j 0 (t .points) (t .size) (ok .rises) l
-
-  -- one symbol more
-  pub between-more : (i j c : ℕ) → i ≤ j → item-at t j ≡ Some c → between t i (start-from t (suc j)) ≡ between t i j ++ c ∷ []
-  between-more i j c l e =
-      let k = start-from t (suc j) in
-      let here : Point = record { at = j; code = c } in
-      let above : suc j ≤ k = start-from-above t ok (suc j) (item-within t ok j c e) in
-      let both : middle i k (t .points) ++ onward t k ≡ (middle i j (t .points) ++ here ∷ []) ++ onward t k =
-      split i k (omega arith) ∙ sym (split i j l) ∙ ap (λ l. middle i j (t .points) ++ l) (onward-some t ok j c e) ∙ sym (append-assoc (middle i j (t .points)) (here ∷ []) (onward t k)) in
-      between-is t i k ∙ ap code-list (append-cancel-right (middle i k (t .points)) (middle i j (t .points) ++ here ∷ []) (onward t k) both)
-      ∙ map-push (λ p. p .code) (middle i j (t .points)) here ∙ ap (λ l. l ++ c ∷ []) (sym (between-is t i j))
-
-  -- the first symbol of a piece that begins at a start stands there
-  pub between-first : (i j c : ℕ) (cs : List ℕ) → start-from t i ≡ i → i ≤ j → between t i j ≡ c ∷ cs → item-at t i ≡ Some c
-  between-first i j c cs s l e = go (middle i j (t .points)) (item-at t i) refl refl
-    where
-      go : (ps : List Point) (o : Option ℕ) → middle i j (t .points) ≡ ps → item-at t i ≡ o → item-at t i ≡ Some c
-      go [] o m f = let none = sym e ∙ between-is t i j ∙ ap code-list m in absurd (omega (arith, ap length none))
-      go (p ∷ ps) None m f =
-          let none = ap (λ l. l ++ onward t j) (sym m) ∙ split i j l ∙ onward-none t ok i s f .0 in
-          absurd (omega (arith, ap length none))
-      go (p ∷ ps) (Some d) m f =
-          let first = ap (λ l. l ++ onward t j) (sym m) ∙ split i j l ∙ onward-some t ok i d f in
-          let codes = sym e ∙ between-is t i j ∙ ap code-list m in
-          let point : p ≡ record { at = i; code = d } = cc in
-          let code : p .code ≡ d = ap (λ p. p .code) point in
-          let same : c ≡ p .code = cc in
-          f ∙ ap Some (sym code ∙ sym same)
-
-  -- no symbol stands before the first start
-  pub none-before : (p c : ℕ) → item-at t p ≡ Some c → start-from t 0 ≤ p
-  none-before p c e = ⊎-elim (λ l. absurd (never l)) (λ l. l) (cases-lt p (start-from t 0))
-    where
-      never : p < start-from t 0 → ⊥
-      never l =
-          let one = ap length (onward-some t ok p c e) in
-          let next = ap length (onward-start t ok (suc p)) in
-          let all = ap length (onward-start t ok 0) in
-          let low = ap length (split 0 p (omega arith)) in
-          let high = ap length (split (suc p) (start-from t 0) l) in
-          omega (arith, one, next, all, low, high, length-append (middle 0 p (t .points)) (onward t p), length-append (middle (suc p) (start-from t 0) (t .points)) (onward t (start-from t 0)))
+use Rattle.lexer.proofs.Betweens.{between-more, between-first, all-between, none-before}
 
 -- a test that fails at 35 tells a symbol from `#`
 not-hash : (test : ℕ → Bool) → test 35 ≡ false → (cs : List ℕ) → All (λ c. test c ≡ true) cs → All (λ c. c ≡ 35 → ⊥) cs
@@ -216,7 +85,7 @@ module _ (t : Text) (ok : Lawful t) where
   outside : (i j : ℕ) → Closed t i → All (λ c. c ≡ 35 → ⊥) (between t i j) → (p c : ℕ) → item-at t p ≡ Some c → i ≤ p → p < j → InRemark t p → ⊥
   outside i j closed plain p c e l m r = ⊎-elim
       (λ k. closed p c r k l e)
-      (λ k. all-part (λ c. c ≡ 35 → ⊥) t i j (r .hash) 35 plain (r .marked) k (omega (arith, r .before)) refl)
+      (λ k. all-between t ok (λ c. c ≡ 35 → ⊥) i j (r .hash) 35 plain (r .marked) k (omega (arith, r .before)) refl)
       (cases-lt (r .hash) i)
 
   -- the longest match of a remark ends at a line feed or at the size
@@ -239,7 +108,7 @@ module _ (t : Text) (ok : Lawful t) where
       (λ k. closed p c r k (omega (arith, m .some)) e)
       (λ k.
       ⊎-elim
-      (λ plain. all-part (λ c. c ≡ 35 → ⊥) t i j (r .hash) 35 (plain .unmarked) (r .marked) k l refl)
+      (λ plain. all-between t ok (λ c. c ≡ 35 → ⊥) i j (r .hash) 35 (plain .unmarked) (r .marked) k l refl)
       (λ marked. r .unbroken j (omega arith) n (ends-line i j type m marked p c n e))
       (sorted (m .lexeme)))
       (cases-lt (r .hash) i)
@@ -272,7 +141,7 @@ module _ (t : Text) (ok : Lawful t) where
   apart-plain i j type closed plain = record {
     value = λ h p c e k. out p c e k;
     remark = λ h p c e k. absurd (plain .apart h);
-    space = λ h p c e k. let both = covered i j p k in (all-part (λ c. blank c ≡ true) t i j p c (plain .blanks h) e (both .0) (both .1), out p c e k);
+    space = λ h p c e k. let both = covered i j p k in (all-between t ok (λ c. blank c ≡ true) i j p c (plain .blanks h) e (both .0) (both .1), out p c e k);
   }
     where
       out : (p c : ℕ) → item-at t p ≡ Some c → covers (token t i j type) p ≡ true → InRemark t p → ⊥
@@ -296,8 +165,8 @@ module _ (t : Text) (ok : Lawful t) where
       inside p both = record {
         hash = i;
         before = both .0;
-        marked = between-first t ok i j 35 (marked .follows) s (omega arith) (marked .first);
-        unbroken = λ l above below feed. all-part (λ c. c ≡ 10 → ⊥) t i j l 10 unfed feed above (omega (arith, both .1)) refl;
+        marked = between-first t ok i j 35 (marked .follows) s less (marked .first);
+        unbroken = λ l above below feed. all-between t ok (λ c. c ≡ 10 → ⊥) i j l 10 unfed feed above (omega (arith, both .1)) refl;
       }
 
   apart-token : (i j type : ℕ) → start-from t i ≡ i → Closed t i → Match t i j type → Apart t (token t i j type)

@@ -15,8 +15,8 @@ use Rattle.std.proofs.shelf.Lists.{append-nil, append-assoc, reverse-append}
 use Rattle.std.proofs.shelf.Tests.{leb-true, eqb-true, lt-ltb, le-ltb, le-leb, lt-leb, eq-eqb, ne-eqb, cases-lt, and-parts, and-from, and-left, and-right, cond-both, cond-true}
 use Rattle.std.specs.declared.option.Option.the-variants.{Some, None}
 use Rattle.characters.specs.Text.{Point, Text, empty, starts, start-from, item-at, back, moved-down, part, cuts}
+use Rattle.characters.proofs.Kept.{kept-all, kept-none}
 use Rattle.texts.specs.Laid.{laid, span, laid-out}
-use Rattle.texts.proofs.Kept.{kept-all, kept-none}
 
 pub span-append : (w : ℕ → ℕ) (xs ys : List ℕ) → span w (xs ++ ys) ≡ span w xs + span w ys
 span-append w [] ys = omega arith

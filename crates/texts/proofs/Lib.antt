@@ -1,4 +1,3 @@
-pub mod Kept
 pub mod Laid
 pub mod Row
 pub mod Checked

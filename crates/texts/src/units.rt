@@ -134,6 +134,28 @@ pub impl<'a, T: Unit> InputData for Units<'a, T> as UnitsInputData {
         }
     }
 
+    // Each position up to the length is a start, so that a number of steps is a distance.
+    fn on(&self, from: usize, steps: usize) -> Option<usize> {
+        if steps == 0 {
+            return Some(from);
+        }
+        let len = self.units.len();
+        if from <= len && steps <= len - from {
+            Some(from + steps)
+        } else {
+            None
+        }
+    }
+
+    // From past the length, the first step back leads to the length.
+    fn back(&self, from: usize, steps: usize) -> Option<usize> {
+        if steps == 0 {
+            return Some(from);
+        }
+        let at = from.min(self.units.len() + 1);
+        if steps <= at { Some(at - steps) } else { None }
+    }
+
     fn part(&self, from: usize, to: usize) -> Self {
         if from <= to && to <= self.units.len() {
             Units {
