@@ -1,8 +1,8 @@
 -- The text in UTF-8, one code point after the other. Assumes nothing.
 use mathlib.Core.Path.{_≡_, refl, sym, ap, subst, _∙_}
-use mathlib.Core.List.{List, [], _∷_, _++_, map, append-assoc, append-nil}
+use mathlib.Core.List.{List, _++_, map, append-assoc, append-nil}
 use mathlib.Core.Bool.{cond}
-use Prim.Native.Nat.{ℕ, zero, suc, _+_, _-_, _*_, _≤_, _<_}
+use Prim.Native.Nat.{ℕ, suc, _+_, _-_, _*_, _≤_, _<_}
 use native.Mathlib.Omega.{arith}
 use lib.ListN.{length, take, drop, length-append, length-drop, take-append-drop}
 use lib.Seq.{length-take-le}
@@ -17,7 +17,7 @@ use Rattle.std.proofs.shelf.Tests.{le-ltb}
 use Rattle.refusals.specs.Answers.{gives, unless}
 use Rattle.refusals.specs.Outputs.{written, overwritten}
 use Rattle.characters.specs.Text.{Point, Text, Lawful, start-from, item-at, shown, display}
-use Rattle.characters.proofs.Starts.{start-from-above, start-from-within, start-from-start}
+use Rattle.characters.proofs.Starts.{start-from-above, start-from-start}
 use Rattle.characters.proofs.Onward.{onward, onward-all, onward-start, onward-some, onward-none, item-within}
 
 abbrev pub encoded : List Point → List ℕ

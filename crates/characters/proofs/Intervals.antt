@@ -1,14 +1,14 @@
 -- An interval that the check grants has two starts for its ends. Assumes nothing.
 use mathlib.Core.Path.{_≡_, refl, sym, ap, _∙_}
-use mathlib.Core.Bool.{Bool, true, false, cond, not, _&&_, _||_}
+use mathlib.Core.Bool.{Bool, true, false, cond, _||_}
 use mathlib.Core.Logic.{⊎-elim}
-use Prim.Native.Nat.{ℕ, suc, _≤_, _<_}
+use Prim.Native.Nat.{ℕ, _≤_}
 use native.Mathlib.Omega.{arith}
-use lib.Dec.{leb, ltb, eqb}
+use lib.Dec.{ltb}
 use lib.IntN.{ℤ, pos}
 use lib.Signed.{ltZ}
-use Rattle.std.proofs.shelf.Tests.{and-from, and-cases, or-parts, not-false, ltb-false, ltb-true, le-leb, eq-eqb, eqb-true, cases-lt, cases-bool}
-use Rattle.refusals.specs.Answers.{Answer, gives, refuses, unless, if-given}
+use Rattle.std.proofs.shelf.Tests.{and-from, and-cases, or-parts, not-false, ltb-false, le-leb, eq-eqb, eqb-true, cases-lt}
+use Rattle.refusals.specs.Answers.{Answer, gives, unless, if-given}
 use Rattle.characters.specs.Text.{Text, Lawful, empty, start-from, inside, cuts, part}
 use Rattle.characters.specs.Signed.{upward, past, interval-check, interval}
 use Rattle.characters.proofs.Starts.{start-from-within, start-from-above, start-from-start, size-start}
@@ -28,10 +28,10 @@ module _ (t : Text) (ok : Lawful t) where
 
   pub granted-cuts : (start stop : ℤ) → interval-check t start stop ≡ gives tt → cuts t (upward start) (start-from t (past stop)) ≡ true
   granted-cuts start stop e =
-      let first = granted _ 5 _ tt e in
-      let second = granted _ 13 _ tt (first .1) in
-      let third = granted _ 6 _ tt (second .1) in
-      let bad = or-parts _ _ (second .0) in
+      let first = granted (ltZ start (pos 0)) 5 _ tt e in
+      let second = granted (ltb (past stop) (upward start) || inside t (upward start)) 13 _ tt (first .1) in
+      let third = granted (ltb (t .size) (past stop)) 6 _ tt (second .1) in
+      let bad = or-parts (ltb (past stop) (upward start)) (inside t (upward start)) (second .0) in
       let order : upward start ≤ past stop = ltb-false _ _ (bad .0) in
       let held : past stop ≤ t .size = ltb-false _ _ (third .0) in
       and-from _ _ (and-from _ _ (le-leb _ _ (omega (arith, start-from-above t ok (past stop) held))) (le-leb _ _ (start-from-within t ok (past stop))))

@@ -1,8 +1,8 @@
 -- A text asked by signed numbers: every position and every step has an answer. Assumes nothing.
 use mathlib.Core.Path.{_≡_}
-use mathlib.Core.Bool.{Bool, cond, _||_}
-use Prim.Native.Nat.{ℕ, zero, suc}
-use lib.Dec.{leb, ltb}
+use mathlib.Core.Bool.{cond, _||_}
+use Prim.Native.Nat.{ℕ, suc}
+use lib.Dec.{ltb}
 use lib.IntN.{ℤ, pos, negsuc, negℤ}
 use lib.Signed.{ltZ}
 use Rattle.std.specs.Options.{mapped}

@@ -1,9 +1,8 @@
 // The input of a lexer or a character stream: code points at rising positions, asked by position.
 ghost use mathlib.Core.Path.{_≡_};
 ghost use mathlib.Core.Bool.{cond};
-ghost use Prim.Native.Nat.{ℕ, suc, _+_, _-_, _^_, _<_, _≤_};
+ghost use Prim.Native.Nat.{suc, _+_, _^_, _<_};
 ghost use lib.ListN.{length};
-ghost use lib.IntN.{ℤ};
 ghost use lib.Utf8.{encode};
 ghost use Rattle.std.specs.Text.{width};
 ghost use Rattle.std.specs.Options.{mapped};

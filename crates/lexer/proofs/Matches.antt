@@ -3,17 +3,16 @@ use mathlib.Core.Path.{_≡_, refl, sym, ap, subst, _∙_}
 use mathlib.Core.Bool.{Bool, true, false, cond, not, _||_}
 use mathlib.Core.Logic.{_⊎_, inl, inr, ⊎-elim}
 use mathlib.Core.List.{List, [], _∷_, _++_}
-use Prim.Native.Nat.{ℕ, zero, suc, _+_, _-_, _≤_, _<_}
+use Prim.Native.Nat.{ℕ, zero, suc, _+_, _≤_, _<_}
 use native.Mathlib.Nat.{add-zero}
 use native.Mathlib.Omega.{arith}
-use lib.Dec.{leb, ltb, eqb}
+use lib.Dec.{leb, eqb}
 use lib.ListN.{length, take, drop, length-append, take-append-drop}
 use lib.Seq.{length-take-le, take-add}
-use Rattle.std.specs.Text.{within}
 use Rattle.std.specs.shelf.Lists.{All, leading}
 use Rattle.std.proofs.shelf.Sums.{leading-le-length}
 use Rattle.std.proofs.shelf.Lists.{append-assoc, take-at, drop-at}
-use Rattle.std.proofs.shelf.Tests.{true≢false, eqb-true, eq-eqb, leb-true, lt-leb, and-parts, and-left, or-from, or-cases, cases-lt, cases-bool, not-from-false, not-true}
+use Rattle.std.proofs.shelf.Tests.{eqb-true, leb-true, lt-leb, and-parts, and-left, or-from, or-cases, not-from-false, not-true}
 use Rattle.lexer.specs.declared.class.Class.{Class}
 use Rattle.lexer.specs.declared.class.Class.the-variants.{Letter, Digit, LineFeed, Blank, Hash, Other}
 use Rattle.lexer.specs.Classes.{letter, digit, line-feed, blank, hash, class}

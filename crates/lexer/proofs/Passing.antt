@@ -1,14 +1,14 @@
 -- Passing over symbols, one after the other. Assumes nothing.
-use mathlib.Core.Path.{_≡_, refl, sym, ap, subst, _∙_}
-use mathlib.Core.Bool.{Bool, true, false, cond}
+use mathlib.Core.Path.{_≡_, refl, sym, ap, _∙_}
+use mathlib.Core.Bool.{Bool, true, false}
 use mathlib.Core.List.{List, [], _∷_}
-use Prim.Native.Nat.{ℕ, zero, suc, _+_, _-_, _^_, _≤_, _<_}
+use Prim.Native.Nat.{ℕ, suc, _+_, _≤_, _<_}
 use native.Mathlib.Omega.{arith}
 use lib.ListN.{drop}
 use Rattle.std.specs.shelf.Lists.{leading}
 use Rattle.std.proofs.shelf.Lists.{drop-drop}
 use Rattle.std.specs.declared.option.Option.the-variants.{Some, None}
-use Rattle.characters.specs.Text.{Text, Point, Lawful, start-from, item-at}
+use Rattle.characters.specs.Text.{Text, Lawful, start-from, item-at}
 use Rattle.characters.proofs.Starts.{start-from-within, start-from-above, start-from-start}
 use Rattle.characters.proofs.Onward.{onward-some, onward-none, item-within}
 use Rattle.lexer.specs.Lexed.{codes-of}

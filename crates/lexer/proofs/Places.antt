@@ -3,17 +3,16 @@ use mathlib.Core.Path.{_≡_, refl, sym, ap, subst, _∙_}
 use mathlib.Core.Bool.{Bool, true, false, cond, not}
 use mathlib.Core.Logic.{⊎-elim}
 use mathlib.Core.List.{List, [], _∷_, _++_, reverse}
-use Prim.Native.Nat.{ℕ, zero, suc, _+_, _≤_, _<_}
+use Prim.Native.Nat.{ℕ, suc, _+_}
 use native.Mathlib.Omega.{arith}
-use lib.Dec.{eqb}
-use lib.ListN.{length, take, length-append}
-use Rattle.std.specs.shelf.Lists.{All, leading, ending, countBy, sumBy}
+use lib.ListN.{length}
+use Rattle.std.specs.shelf.Lists.{All, leading, ending, countBy}
 use Rattle.std.proofs.shelf.Elements.{all-append, all-weaker}
 use Rattle.std.proofs.shelf.Lists.{reverse-append, length-reverse}
 use Rattle.std.proofs.shelf.Sums.{sumBy-append, sumBy-cons}
 use Rattle.std.proofs.shelf.Tests.{eqb-true, cases-bool, not-from-false, not-from-true}
 use Rattle.lexer.specs.declared.class.Class.{Class}
-use Rattle.lexer.specs.declared.class.Class.the-variants.{Letter, Digit, LineFeed, Blank, Hash, Other}
+use Rattle.lexer.specs.declared.class.Class.the-variants.{Letter, Digit, LineFeed, Blank, Other}
 use Rattle.lexer.specs.Classes.{letter, digit, line-feed, blank, class}
 use Rattle.lexer.specs.Lexemes.{Lexeme, word, whole, decimal, newline, space, remark, other}
 use Rattle.lexer.specs.Lexed.{next-line, next-column}

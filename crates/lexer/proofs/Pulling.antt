@@ -2,10 +2,10 @@
 use mathlib.Core.Path.{_≡_, refl, sym, ap, subst, _∙_}
 use mathlib.Core.Bool.{Bool, true, false, cond}
 use mathlib.Core.List.{List, [], _∷_}
-use Prim.Native.Nat.{ℕ, zero, suc, _+_, _≤_, _<_}
+use Prim.Native.Nat.{ℕ, zero, suc, _+_, _≤_}
 use native.Mathlib.Omega.{arith}
-use lib.Dec.{leb, eqb}
-use lib.ListN.{length, drop}
+use lib.Dec.{eqb}
+use lib.ListN.{drop}
 use Rattle.std.proofs.shelf.Tests.{eq-eqb, eqb-true}
 use Rattle.std.specs.declared.option.Option.{Option}
 use Rattle.std.specs.declared.option.Option.the-variants.{Some, None}
@@ -16,7 +16,7 @@ use Rattle.tokens.specs.Sources.{Pulls}
 use Rattle.lexer.specs.declared.class.Class.{Class}
 use Rattle.lexer.specs.declared.class.Class.the-variants.{Letter, Digit, LineFeed, Blank, Hash, Other}
 use Rattle.lexer.specs.Classes.{class}
-use Rattle.lexer.specs.Lexed.{type-of, more, next-line, next-column, made, made-eof, first-at, codes-of, tokens-of, left, lexed}
+use Rattle.lexer.specs.Lexed.{type-of, more, next-line, next-column, made, made-eof, first-at, tokens-of, left, lexed}
 use Rattle.lexer.specs.Listed.{tokens-some}
 use Rattle.lexer.specs.Passed.{Passed, onward, rest}
 use Rattle.lexer.proofs.Passing.{left-more, next-above}

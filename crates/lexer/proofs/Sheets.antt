@@ -3,7 +3,7 @@ use mathlib.Core.Path.{_≡_, refl, sym, ap, subst, _∙_}
 use mathlib.Core.Bool.{Bool, true, false, cond, not}
 use mathlib.Core.Logic.{⊎-elim}
 use mathlib.Core.List.{List, [], _∷_, _++_}
-use Prim.Native.Nat.{ℕ, zero, suc, _+_, _-_, _≤_, _<_}
+use Prim.Native.Nat.{ℕ, zero, suc, _+_, _≤_, _<_}
 use native.Mathlib.Numerals.{add-one, one-add}
 use native.Mathlib.Omega.{arith}
 use lib.Dec.{eqb}
@@ -14,17 +14,16 @@ use Rattle.std.proofs.shelf.Sums.{leading-le-length}
 use Rattle.std.specs.declared.option.Option.{Option}
 use Rattle.std.specs.declared.option.Option.the-variants.{Some, None}
 use Rattle.characters.specs.Text.{Text, Lawful, start-from, item-at}
-use Rattle.characters.proofs.Starts.{start-from-start, start-from-within}
+use Rattle.characters.proofs.Starts.{start-from-start}
 use Rattle.characters.proofs.Onward.{onward-none, onward-start, item-within, item-start}
-use Rattle.tokens.specs.declared.token.Token.{Token}
 use Rattle.lexer.specs.declared.class.Class.{Class}
 use Rattle.lexer.specs.declared.class.Class.the-variants.{Letter, Digit, LineFeed, Blank, Hash, Other}
 use Rattle.lexer.specs.Classes.{letter, digit, line-feed, blank, class}
 use Rattle.lexer.specs.Lexemes.{Lexeme}
-use Rattle.lexer.specs.Sheets.{between, line-at, column-at, token, eof, Match, Tokens, ended, then, Sheet}
-use Rattle.lexer.specs.Lexed.{type-of, pointed, fraction, number, more, next-line, next-column, made-eof, lexed}
+use Rattle.lexer.specs.Sheets.{between, line-at, column-at, Match, Tokens, ended, then, Sheet}
+use Rattle.lexer.specs.Lexed.{type-of, pointed, fraction, more, next-line, next-column, made-eof, lexed}
 use Rattle.lexer.specs.Passed.{Passed, onward, rest}
-use Rattle.lexer.proofs.Passing.{passed-none, passed-more, passed-both, next-above, end-within, left-more, rest-more}
+use Rattle.lexer.proofs.Passing.{passed-none, passed-more, passed-both, rest-more}
 use Rattle.lexer.proofs.Pulling.{lexed-eof, lexed-more, passed-wide}
 use Rattle.lexer.proofs.Matches.{kind, kind-feed, feed-cases, lexeme-of, none-longer}
 use Rattle.lexer.proofs.Betweens.{passed-between, further-between, between-both}

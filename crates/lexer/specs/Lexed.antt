@@ -1,12 +1,11 @@
 -- The lexer's tokens, computed: the meaning of a lexer that stands somewhere in a text. `Sheets` says what they are.
 -- Assumes nothing.
-use mathlib.Core.Path.{_≡_}
-use mathlib.Core.Bool.{Bool, true, false, cond, not}
+use mathlib.Core.Bool.{Bool, false, cond, not}
 use mathlib.Core.List.{List, [], _∷_, map}
 use Prim.Native.Nat.{ℕ, zero, suc, _+_}
 use lib.Dec.{leb, eqb}
-use lib.IntN.{ℤ, pos, negsuc}
-use lib.ListN.{getD, drop}
+use lib.IntN.{pos, negsuc}
+use lib.ListN.{drop}
 use Rattle.std.specs.shelf.Lists.{leading, kept-by}
 use Rattle.characters.specs.Text.{Point, Text, start-from}
 use Rattle.tokens.specs.declared.token.Token.{Token}

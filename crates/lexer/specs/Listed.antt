@@ -1,8 +1,8 @@
 -- The computed tokens are such a list as a source may mean. Assumes nothing.
-use mathlib.Core.Path.{_≡_, refl, sym, ap, subst, _∙_}
+use mathlib.Core.Path.{_≡_, refl, ap, subst, _∙_}
 use mathlib.Core.Bool.{Bool, true, false, cond, not, _&&_}
 use mathlib.Core.List.{List, [], _∷_}
-use Prim.Native.Nat.{ℕ, zero, suc, _+_, _≤_, _<_}
+use Prim.Native.Nat.{ℕ, zero, suc, _+_, _≤_}
 use native.Mathlib.Omega.{arith}
 use lib.Dec.{leb, eqb}
 use lib.ListN.{length, drop}
@@ -12,7 +12,6 @@ use Rattle.characters.specs.Text.{Point, Text, Rises, start-from}
 use Rattle.characters.specs.Text as text
 use Rattle.tokens.specs.declared.token.Token.{Token}
 use Rattle.tokens.specs.Tokens.{is-eof, ends, Lawful}
-use Rattle.lexer.specs.declared.class.Class.{Class}
 use Rattle.lexer.specs.Classes.{class}
 use Rattle.lexer.specs.Lexed.{type-of, more, next-line, next-column, made, first-at, codes-of, tokens-of, left, lexed}
 

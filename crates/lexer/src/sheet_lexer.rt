@@ -1,10 +1,9 @@
 // A token source over any input: the longest matches of a sheet, one after the other.
 ghost use mathlib.Core.Path.{_≡_};
-ghost use mathlib.Core.List.{List};
-ghost use Prim.Native.Nat.{ℕ, _+_, _^_, _≤_, _<_};
+ghost use Prim.Native.Nat.{_+_, _^_, _≤_, _<_};
 ghost use lib.IntN.{pos};
 ghost use Rattle.std.specs.shelf.Lists.{leading};
-ghost use Rattle.characters.specs.Text.{Text, start-from};
+ghost use Rattle.characters.specs.Text.{start-from};
 ghost use Rattle.tokens.specs.Spans.{span-text};
 ghost use Rattle.tokens.specs.declared.token.Token.{Token};
 ghost use Rattle.lexer.specs.Sheets.{before, Sheet};

@@ -1,10 +1,10 @@
 -- What a call that writes into a caller's output answers and leaves. Assumes nothing.
-use mathlib.Core.Bool.{Bool, cond}
+use mathlib.Core.Bool.{cond}
 use mathlib.Core.List.{List, _++_}
 use Prim.Native.Nat.{ℕ}
 use lib.Dec.{ltb}
 use lib.ListN.{length, drop}
-use Rattle.refusals.specs.Answers.{Answer, gives, refuses, unless}
+use Rattle.refusals.specs.Answers.{Answer, gives, unless}
 
 -- how many items were written, or 'short output' where the output cannot take them all
 abbrev pub written : {A : Type 0} → List A → List A → Answer ℕ

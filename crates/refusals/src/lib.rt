@@ -1,6 +1,5 @@
 // The refusals: what a call answers when it cannot do what was asked.
 ghost use mathlib.Core.Path.{_≡_};
-ghost use lib.Chars.{codes};
 ghost use Rattle.refusals.specs.Numbers.{number, meaning};
 
 #[derive(Clone, Copy, PartialEq, Eq, Debug)]

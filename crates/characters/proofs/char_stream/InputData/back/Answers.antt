@@ -1,6 +1,5 @@
-use mathlib.Core.Path.{sym, ap, _∙_}
+use mathlib.Core.Path.{sym, _∙_}
 use native.Mathlib.Omega.{arith}
-use Rattle.characters.specs.Text.{back}
 use Rattle.characters.proofs.Starts.{back-step, back-stop}
 use Rattle.characters.proofs.char_stream.InputData.back.Needs as need
 

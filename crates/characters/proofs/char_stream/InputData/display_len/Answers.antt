@@ -1,8 +1,6 @@
 use mathlib.Core.Path.{sym, ap, subst, _∙_}
-use Prim.Native.Nat.{_+_}
 use native.Mathlib.Omega.{arith}
 use Rattle.std.specs.Text.{width}
-use Rattle.std.proofs.shelf.Text.{width-bounds}
 use Rattle.characters.proofs.Onward.{item-within}
 use Rattle.characters.proofs.Display.{Counted, counted-none, counted-more, counted-all, next-above}
 use Rattle.characters.proofs.char_stream.InputData.display_len.Needs as need
