@@ -28,7 +28,7 @@ fn upward(index: i32) -> usize
 }
 
 // The least position that is above a number.
-fn past(index: i32) -> usize
+pub fn past(index: i32) -> usize
     ensures value { λ r. ⌜ r ≡ past index ⌝ }
 {
     if index < 0 { 0 } else { index as usize + 1 }

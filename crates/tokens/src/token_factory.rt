@@ -11,7 +11,20 @@ use characters::char_stream::InputData;
 use refusals::Refusal;
 
 // What the EOF shows, and a token whose span is not inside the input.
-const EOF_TEXT: &[u8; 5] = b"<EOF>";
+pub(crate) const EOF_TEXT: &[u8; 5] = b"<EOF>";
+
+// Writes bytes into an output.
+pub(crate) fn put(bytes: &[u8], out: &mut [u8]) -> Result<usize, Refusal>
+    ensures value { λ r. ⌜ answer r ≡ written (now (bytes .entry)) (now (out .entry)) ⌝ }
+    ensures after { λ _. ⌜ now (out .exit) ≡ overwritten (now (bytes .entry)) (now (out .entry)) ⌝ }
+{
+    let len = bytes.len();
+    if out.len() < len {
+        return Err(Refusal::ShortOutput);
+    }
+    out[0..len].copy_from_slice(bytes);
+    Ok(len)
+}
 
 // Whether a token shows a part of the input.
 fn shows<D: InputData>(input: &D, token: &Token) -> bool
@@ -52,9 +65,5 @@ pub fn write_span_text<D: InputData + Drop>(
     if shows(input, token) {
         return input.interval(token.start, token.stop).to_display(out);
     }
-    if out.len() < EOF_TEXT.len() {
-        return Err(Refusal::ShortOutput);
-    }
-    out[0..5].copy_from_slice(EOF_TEXT);
-    Ok(EOF_TEXT.len())
+    put(EOF_TEXT, out)
 }
