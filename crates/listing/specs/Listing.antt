@@ -27,8 +27,8 @@ pub record Listed (bytes listing : List ℕ) : Type 0 where
   pub remark-is-never-a-value : ToldApart (encoded-text bytes) tokens
   pub lines : listing ≡ listed (span-text (encoded-text bytes)) 0 tokens
 
--- bytes that are no text are refused as their check refuses them; want of memory says nothing of them
+-- bytes that are no text are refused as their check refuses them; memory can run out for a text alone
 abbrev pub Listing : List ℕ → Result (Vec ℕ Global) Stop → Type 0
 Listing bytes (Ok v) = Listed bytes (vec-items v)
 Listing bytes (Err (Refused e)) = Checked bytes (refuses (number e))
-Listing bytes (Err NoMemory) = Unit {0}
+Listing bytes (Err NoMemory) = Readable bytes
