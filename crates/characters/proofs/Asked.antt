@@ -41,7 +41,7 @@ pub moved-within : (t : Text) → Lawful t → (i j : ℕ) (k : ℤ) → i ≤ t
 moved-within t ok i j (pos n) h e = on-within t ok n i j h e
 moved-within t ok i j (negsuc n) h e = omega (arith, back-within t ok (suc n) i j e)
 
--- k steps on and then k steps back return
+-- forward and back again
 steps-off : (t : Text) (j k : ℕ) → moved t j (negℤ (pos k)) ≡ back t j k
 steps-off t j zero = refl
 steps-off t j (suc k) = refl

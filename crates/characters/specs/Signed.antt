@@ -25,7 +25,7 @@ abbrev pub offset : Text → ℤ → ℤ → Option ℤ
 offset t (pos i) k = cond (ltb (t .size) i) None (mapped pos (moved t i k))
 offset t (negsuc i) k = None
 
--- from a start, where k steps on exist, k steps on and then k steps back return
+-- a walk of k starts forward from a start, where there are that many, and then of k back ends where it began
 abbrev pub Returns : Text → ℤ → ℤ → Option ℤ → Type 0
 Returns t (pos i) (pos k) (Some j) = start-from t i ≡ i → offset t j (negℤ (pos k)) ≡ Some (pos i)
 Returns t (pos i) (pos k) None = Unit {0}

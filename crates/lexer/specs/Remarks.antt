@@ -28,7 +28,7 @@ pub record Apart (t : Text) (k : Token) : Type 0 where
   pub remark : k .channel ≡ pos 2 → (i c : ℕ) → item-at t i ≡ Some c → covers k i ≡ true → InRemark t i
   pub space : k .channel ≡ pos 1 → (i c : ℕ) → item-at t i ≡ Some c → covers k i ≡ true → (blank c ≡ true) × (InRemark t i → ⊥)
 
--- each token keeps them apart, and each symbol lies in exactly one token, which is not the EOF
+-- each token keeps them apart, and one token alone covers a symbol, which is not the EOF
 pub record ToldApart (t : Text) (ks : List Token) : Type 0 where
   pub each : All (Apart t) ks
   pub once : (i c : ℕ) → item-at t i ≡ Some c → (k : Token) × (is-eof k ≡ false) × (kept-by (λ k. covers k i) ks ≡ k ∷ [])
