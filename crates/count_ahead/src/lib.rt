@@ -1,4 +1,6 @@
 // How far a list of numbers agrees with the symbols that come in a stream.
+#![tactic(auto)]
+
 ghost use Rattle.std.specs.Prelude.{◌≡◌, ℕ, ◌<◌, true, length, IfOk};
 ghost use Rattle.refusals.specs.Answers.{answer};
 ghost use Rattle.streams.specs.Streams.{Stream, moved};

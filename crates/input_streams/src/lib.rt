@@ -1,2 +1,4 @@
 // The stream of the characters of a text.
+#![tactic(auto)]
+
 pub mod input_stream;

@@ -1,3 +1,5 @@
 // The lexer of schedule sheets.
+#![tactic(auto)]
+
 pub mod class;
 pub mod sheet_lexer;

@@ -1,4 +1,6 @@
 // Reads a sheet from standard input and prints its tokens.
+#![tactic(auto)]
+
 use listing::sheet::{Stop, list_sheet};
 use refusals::Refusal;
 use std::io;

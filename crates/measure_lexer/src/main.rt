@@ -1,4 +1,6 @@
 // Lexes the sheet on standard input as often as its argument says, and prints how many tokens came. The time goes to standard error.
+#![tactic(auto)]
+
 use characters::char_stream::InputData;
 use lexer::sheet_lexer::SheetLexer;
 use std::env;

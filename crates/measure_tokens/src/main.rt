@@ -1,5 +1,7 @@
 // Reads the tokens of the sheet on standard input through a small window, as often as its argument says, and prints how
 // many there were. The time goes to standard error.
+#![tactic(auto)]
+
 use characters::char_stream::InputData;
 use lexer::sheet_lexer::SheetLexer;
 use refusals::Refusal;

@@ -1,4 +1,6 @@
 // The refusals: what a call answers when it cannot do what was asked.
+#![tactic(auto)]
+
 ghost use Rattle.std.specs.Prelude.{◌≡◌};
 ghost use Rattle.refusals.specs.Numbers.{number, meaning};
 

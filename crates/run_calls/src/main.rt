@@ -1,4 +1,6 @@
 // Runs the call script on standard input, and prints what each call answered.
+#![tactic(auto)]
+
 mod calls;
 mod levels;
 mod results;

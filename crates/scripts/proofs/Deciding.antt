@@ -4,11 +4,6 @@ use Rattle.std.specs.Str.{bytes_eq}
 use Rattle.scripts.specs.Calls.{token_of, call_of}
 use Rattle.scripts.specs.Sayings.{Saying, if_read, count_ahead, new_token, ask, name_numbers}
 
-pub same_decision : (r s : Bool) (P : Type 0) → Decides r P → Decides s P → r ≡ s
-same_decision true s P d e = sym (e.1 (d.0 refl))
-same_decision false true P d e = d.1 (e.0 refl)
-same_decision false false P d e = refl
-
 -- a name with numbers, by the tests of it
 module _ (name : List ℕ) (ks : List ℤ) (b : Bool) (counts : b ≡ bytes_eq name (codes "count-ahead")) where
   pub name_counts : b ≡ true → count_ahead ks ≡ name_numbers name (Some ks)

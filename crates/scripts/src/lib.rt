@@ -1,4 +1,6 @@
 // Call scripts: a text into lines, words and numbers, and an answer into text.
+#![tactic(auto)]
+
 pub mod answers;
 pub mod line;
 pub mod numerals;

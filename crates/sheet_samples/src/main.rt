@@ -1,4 +1,6 @@
 // Lists sheets that are easy to get wrong, of every kind of text. What is printed is compared with a stored output.
+#![tactic(auto)]
+
 use anyhow::anyhow;
 use characters::char_stream::InputData;
 use lexer::sheet_lexer::SheetLexer;

@@ -1,4 +1,6 @@
 // Laws that every stream of symbols keeps, each on the calls that it speaks of.
+#![tactic(auto)]
+
 ghost use Rattle.std.specs.Prelude.{◌≡◌, ℕ, length, ℤ, pos, negsuc, ◌≤ℤ◌, ◌<ℤ◌, IfOk};
 ghost use Rattle.refusals.specs.Answers.{gives, answer};
 ghost use Rattle.streams.specs.Streams.{Stream, moved, with_marks};

@@ -1,11 +1,12 @@
 // Texts of 8-, 16- and 32-bit units, each of which holds one code point.
-ghost use Rattle.std.specs.Prelude.{◌≡◌, ℕ, ◌≤◌, map, length};
+ghost use Rattle.std.specs.Prelude.{◌≡◌, ℕ, ◌≤◌, map, length, ⊤};
 ghost use Rattle.refusals.specs.Answers.{answer};
 ghost use Rattle.texts.specs.Units.{all_small, units_check, units_text, row_of};
 ghost use Rattle.texts.specs.Keeps.{row_lawful};
 
 use characters::char_stream::{CodePoint, InputData};
 use refusals::Refusal;
+use std::alloc::AllocError;
 
 // A text has at most 65,536 units, and a code point at most 31 bits.
 const MOST_UNITS: usize = 65_536;
@@ -48,6 +49,16 @@ impl Unit for u32 {
 pub struct Units<'a, T> {
     units: &'a [T],
     ghost few: { length units.now ≤ 65536 },
+}
+
+impl<'a, T> Clone for Units<'a, T> {
+    ghost is_clone = { λ x y. y ≡ x };
+
+    ghost is_infallible = { λ _. ⊤ };
+
+    fn clone(&self) -> Result<Units<'a, T>, AllocError> {
+        Ok(*self)
+    }
 }
 
 impl<'a, T> Copy for Units<'a, T> {}

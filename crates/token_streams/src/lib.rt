@@ -1,2 +1,4 @@
 // Streams of tokens.
+#![tactic(auto)]
+
 pub mod token_stream;

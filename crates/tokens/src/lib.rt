@@ -1,4 +1,6 @@
 // Tokens, where they come from, and their texts.
+#![tactic(auto)]
+
 pub mod list_source;
 pub mod token;
 pub mod token_factory;

@@ -1,4 +1,6 @@
 // UTF-8 as RFC 3629 defines it: the code point that a text begins with, and whether bytes are a text.
+#![tactic(auto)]
+
 ghost use Rattle.std.specs.Prelude.{◌≡◌, ◌+◌, MatchOption, slice_index};
 ghost use Rattle.refusals.specs.Answers.{answer};
 ghost use Rattle.std.specs.Int.{IsInRange};

@@ -1,4 +1,6 @@
 // Whether samples of bytes are texts, and which code points they hold. Each line of standard input is a name and bytes in hexadecimal.
+#![tactic(auto)]
+
 use characters::char_stream::InputData;
 use refusals::Refusal;
 use std::alloc::{AllocError, Global};

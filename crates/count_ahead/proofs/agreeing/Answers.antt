@@ -6,14 +6,14 @@ use Rattle.count_ahead.proofs.agreeing.Goals as goal
 pub walk-init : goal.walk-init
 walk-init g c = walk_none g.S.IntStream c.args.stream.now c.args.wanted.now
 
-pub returns-in-err-number : goal.returns-in-err-number
-returns-in-err-number g c =
+pub returns-in_err-number : goal.returns-in_err-number
+returns-in_err-number g c =
     let i = g.S.IntStream in
     let la = c.la.ensures in
     let w = walk_looked i c.la.new.self c.walk.invariant la.after la.status la.unaltered in
     let turns = turning i c.requires.opened c.requires.marked c.walk.invariant c.walk-test.true in
     record {
-      value = λ s shown. absurd (la_not_refused s _ _ (turns s shown) i.nothing _ (c.in-err-number.ensures.value _ (c.walk.invariant.walked s shown).there));
+      value = λ s shown. absurd (la_not_refused s _ _ (turns s shown) i.nothing _ (c.in_err-number.ensures.value _ (c.walk.invariant.walked s shown).there));
       after = λ s shown. (_, (w.walked s shown).there);
       status = w.status;
       unaltered = w.unaltered;
@@ -25,7 +25,7 @@ returns-then-not-same g c =
     let la = c.la.ensures in
     let w = walk_looked i c.la.new.self c.walk.invariant la.after la.status la.unaltered in
     let turns = turning i c.requires.opened c.requires.marked c.walk.invariant c.walk-test.true in
-    let is = seen_here i _ c.walk.invariant turns c.in-ok-number.ensures.value in
+    let is = seen_here i _ c.walk.invariant turns c.in_ok-number.ensures.value in
     record {
       value = λ s shown. ends_differing s _ _ (turns s shown) _ (told _ _ _ _ (search rules) (search rules) c.if-not-same.ensures.value (is s shown));
       after = λ s shown. (_, (w.walked s shown).there);
@@ -39,7 +39,7 @@ returns-then-count-wanted g c =
     let la = c.la.ensures in
     let w = walk_looked i c.la.new.self c.walk.invariant la.after la.status la.unaltered in
     let turns = turning i c.requires.opened c.requires.marked c.walk.invariant c.walk-test.true in
-    let is = seen_here i _ c.walk.invariant turns c.in-ok-number.ensures.value in
+    let is = seen_here i _ c.walk.invariant turns c.in_ok-number.ensures.value in
     record {
       value = λ s shown. ends_unwanted s _ _ (turns s shown) _ (told _ _ _ _ (search rules) (search rules) c.if-not-same.ensures.value (is s shown)) c.if-count-wanted.true;
       after = λ s shown. (_, (w.walked s shown).there);
@@ -53,7 +53,7 @@ returns-then-same g c =
     let la = c.la.ensures in
     let w = walk_looked i c.la.new.self c.walk.invariant la.after la.status la.unaltered in
     let turns = turning i c.requires.opened c.requires.marked c.walk.invariant c.walk-test.true in
-    let is = seen_here i _ c.walk.invariant turns c.in-ok-number.ensures.value in
+    let is = seen_here i _ c.walk.invariant turns c.in_ok-number.ensures.value in
     record {
       value = λ s shown.
           ends_at_eof s _ _ (turns s shown) _ (told _ _ _ _ (search rules) (search rules) c.if-not-same.ensures.value (is s shown))
@@ -67,28 +67,28 @@ pub walk-preserved : goal.walk-preserved
 walk-preserved g c =
     let i = g.S.IntStream in
     let la = c.la.ensures in
-    let step = c.in-ok-consume.ensures in
+    let step = c.in_ok-consume.ensures in
     let w = walk_looked i c.la.new.self c.walk.invariant la.after la.status la.unaltered in
     let turns = turning i c.requires.opened c.requires.marked c.walk.invariant c.walk-test.true in
-    let is = seen_here i _ c.walk.invariant turns c.in-ok-number.ensures.value in
+    let is = seen_here i _ c.walk.invariant turns c.in_ok-number.ensures.value in
     walk_more i c.consume.new.self w
     (λ s shown.
     walked_more s _ _ (turns s shown) _ (told _ _ _ _ (search rules) (search rules) c.if-not-same.ensures.value (is s shown)) (told_eof _ _ _ (search rules) c.if-same.ensures.value (is s shown)) _
     (step.value _ (w.walked s shown).there) (step.after _ (w.walked s shown).there))
     step.status step.unaltered
 
-pub returns-in-err-consume : goal.returns-in-err-consume
-returns-in-err-consume g c =
+pub returns-in_err-consume : goal.returns-in_err-consume
+returns-in_err-consume g c =
     let i = g.S.IntStream in
     let la = c.la.ensures in
-    let step = c.in-err-consume.ensures in
+    let step = c.in_err-consume.ensures in
     let w = walk_looked i c.la.new.self c.walk.invariant la.after la.status la.unaltered in
     let stayed = walk_stayed i c.consume.new.self w step.value step.after step.status step.unaltered in
     let turns = turning i c.requires.opened c.requires.marked c.walk.invariant c.walk-test.true in
-    let is = seen_here i _ c.walk.invariant turns c.in-ok-number.ensures.value in
+    let is = seen_here i _ c.walk.invariant turns c.in_ok-number.ensures.value in
     record {
       value = λ s shown.
-          passed_on c.from-residual-in-err-consume.result _ c.from-residual-in-err-consume.ensures.1
+          passed_on c.from_residual-in_err-consume.result _ c.from_residual-in_err-consume.ensures.1
           ∙ ends_unseen s _ _ (turns s shown) _ (told _ _ _ _ (search rules) (search rules) c.if-not-same.ensures.value (is s shown)) (told_eof _ _ _ (search rules) c.if-same.ensures.value (is s shown))
           (omega arith) _ (step.value _ (w.walked s shown).there);
       after = λ s shown. (_, (stayed.walked s shown).there);

@@ -8,12 +8,12 @@ use Rattle.streams.proofs.Trips.{Trip, unmarked_status, unmarked_shows, done_sta
 use Rattle.count_ahead.proofs.Counts.{counted_marked, counted_unmarked, counted_longest}
 use Rattle.count_ahead.proofs.count_ahead.Goals as goal
 
-pub returns-in-err-mark : goal.returns-in-err-mark
-returns-in-err-mark g c =
+pub returns-in_err-mark : goal.returns-in_err-mark
+returns-in_err-mark g c =
     let i = g.S.IntStream in
     let x = c.args.stream.now in
-    let mark = c.in-err-mark.ensures in
-    let r = c.from-residual-in-err-mark in
+    let mark = c.in_err-mark.ensures in
+    let r = c.from_residual-in_err-mark in
     record {
       value = λ s shown. passed_on r.result _ r.ensures.1 ∙ counted_unmarked i x _ _ mark.value c.args.wanted.now s shown;
       longest = λ s shown. IfOk-from_err r.result _ r.ensures.0;
@@ -26,14 +26,14 @@ pub returns : goal.returns
 returns g c =
     let i = g.S.IntStream in
     let x = c.args.stream.now in
-    let here = c.in-ok-here.here in
+    let here = c.in_ok-here.here in
     let fits : SFits w32 here = search rules in
-    let mark = c.in-ok-mark.ensures in
+    let mark = c.in_ok-mark.ensures in
     let walk = c.agreeing-count.ensures in
     let back = c.seek.ensures in
     let end = c.in-Ok.ensures in
-    let trip : Trip i x c.mark.new.self c.agreeing-count.new.stream c.seek.new.self c.in-ok-mark.mark.number here = record {
-      noted = c.in-ok-here.ensures.value;
+    let trip : Trip i x c.mark.new.self c.agreeing-count.new.stream c.seek.new.self c.in_ok-mark.mark.number here = record {
+      noted = c.in_ok-here.ensures.value;
       made = mark.value;
       mark_after = mark.after;
       mark_status = mark.status;

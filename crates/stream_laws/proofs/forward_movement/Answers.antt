@@ -6,7 +6,7 @@ pub returns : goal.returns
 returns g c =
     let i = g.S.IntStream in
     let steps = c.consume-step.ensures in
-    let there = c.index_after.ensures in
+    let there = c.index-after.ensures in
     record {
       forward_movement = λ s shown y before step.
           let on = index_after s y (i.lawful c.args.stream.now s shown).0 (sym (c.index-before.ensures.value s shown) ∙ before) (sym (steps.value s shown) ∙ step) in

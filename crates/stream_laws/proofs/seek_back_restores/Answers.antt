@@ -10,13 +10,13 @@ use Rattle.stream_laws.specs.Returns.{mark_made}
 use Rattle.stream_laws.proofs.Wanders.{closed_unmarked, closed_status, closed_shows}
 use Rattle.stream_laws.proofs.seek_back_restores.Goals as goal
 
-pub returns-in-err-here : goal.returns-in-err-here
-returns-in-err-here g c =
+pub returns-in_err-here : goal.returns-in_err-here
+returns-in_err-here g c =
     let i = g.S.IntStream in
     let x = c.args.stream.now in
-    let r = c.from-residual in
+    let r = c.from_residual in
     let p = err_from_is_err_and r.result r.ensures.1 in
-    let none = c.in-err-here.ensures.value in
+    let none = c.in_err-here.ensures.value in
     record {
       seek_back_restores = λ s shown. closed_shows i x i.nothing _ s shown (none s shown);
       accepted = λ s shown. IfOk-from_err r.result _ r.ensures.0;
@@ -29,24 +29,24 @@ pub returns : goal.returns
 returns g c =
     let i = g.S.IntStream in
     let x = c.args.stream.now in
-    let here = c.in-ok-here.here in
+    let here = c.in_ok-here.here in
     let fits : SFits w32 here = search rules in
-    let mark = c.in-ok-mark.ensures in
+    let mark = c.in_ok-mark.ensures in
     let away = c.wander.ensures in
-    let back = c.seek_back.ensures in
-    let trip : Trip i x c.mark.new.self c.wander.new.stream c.seek_back.new.self c.in-ok-mark.mark.number here = record {
-      noted = c.in-ok-here.ensures.value;
+    let back = c.seek-back.ensures in
+    let trip : Trip i x c.mark.new.self c.wander.new.stream c.seek-back.new.self c.in_ok-mark.mark.number here = record {
+      noted = c.in_ok-here.ensures.value;
       made = mark.value;
       mark_after = mark.after;
       mark_status = mark.status;
       went_after = away.after;
       went_status = away.status;
-      seek_after = λ s shown. subst (λ k. i.shows c.seek_back.new.self (sought_out s k)) (to_z-of_z w32 here fits) (back.after s shown);
+      seek_after = λ s shown. subst (λ k. i.shows c.seek-back.new.self (sought_out s k)) (to_z-of_z w32 here fits) (back.after s shown);
       seek_status = back.status;
     } in
     record {
-      seek_back_restores = λ s shown. subst (λ t. i.shows c.seek_back.new.self (with_marks s t.marks)) (sym (back.status ∙ away.status)) (back_shows i trip s shown);
-      accepted = back_given i trip (answer c.seek_back.result) (λ s shown. back.value s shown ∙ ap (seek s) (to_z-of_z w32 here fits));
+      seek_back_restores = λ s shown. subst (λ t. i.shows c.seek-back.new.self (with_marks s t.marks)) (sym (back.status ∙ away.status)) (back_shows i trip s shown);
+      accepted = back_given i trip (answer c.seek-back.result) (λ s shown. back.value s shown ∙ ap (seek s) (to_z-of_z w32 here fits));
       value = λ s shown. mark.value;
       status = λ s shown. back.status ∙ away.status ∙ mark.status;
       unaltered = i.chained _ _ _ mark.unaltered (i.chained _ _ _ away.unaltered back.unaltered);

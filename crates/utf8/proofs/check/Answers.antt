@@ -9,9 +9,9 @@ use Rattle.utf8.proofs.Grammar.{agrees}
 use Rattle.utf8.proofs.Texts.{utf8_whole, rest_shorter, begun}
 use Rattle.utf8.proofs.check.Goals as goal
 
-pub returns-then-bytes-gt-MOST-BYTES : goal.returns-then-bytes-gt-MOST-BYTES
-returns-then-bytes-gt-MOST-BYTES c =
-    record { checked = inl (refl, c.if-bytes-gt-MOST-BYTES.true); agrees = agrees c.args.bytes.now; decoded = tt }
+pub returns-then-bytes-gt-MOST_BYTES : goal.returns-then-bytes-gt-MOST_BYTES
+returns-then-bytes-gt-MOST_BYTES c =
+    record { checked = inl (refl, c.if-bytes-gt-MOST_BYTES.true); agrees = agrees c.args.bytes.now; decoded = tt }
 
 pub walk-smaller : goal.walk-smaller
 walk-smaller c = omega (arith, rest_shorter c.in-Some.ensures.cases)
@@ -29,15 +29,15 @@ walk-preserved-then-lead-lt128 c =
     let b = one rest lead (low_scalar lead (omega arith)) (record { long = omega (arith, ltb-false); small = c.if-lead-lt128.true; code = refl }) in
     rw take_rest ((λ u. c.walk.invariant.0 (utf8_whole b u)), λ u. IsUtf8-past_char _ _ _ (c.walk.invariant.1 u) b.whole)
 
-pub returns-in-default-front : goal.returns-in-default-front
-returns-in-default-front c =
+pub returns-in_default-front : goal.returns-in_default-front
+returns-in_default-front c =
     let some : 0 < length c.walk.rest.now = omega (arith, ltb-false) in
     record {
       checked = inr (
         refl,
-        c.if-bytes-gt-MOST-BYTES.false,
+        c.if-bytes-gt-MOST_BYTES.false,
         λ o. let b = begun c.walk.rest.now (c.walk.invariant.1 ((agrees c.args.bytes.now).0 o)) some in
-            c.in-default-front.ensures.cases b.0 b.1 b.2,
+            c.in_default-front.ensures.cases b.0 b.1 b.2,
       );
       agrees = agrees c.args.bytes.now;
       decoded = tt;
@@ -48,7 +48,7 @@ returns c =
     let nothing_left = nil_from_length c.walk.rest.now (omega (arith, ltb-true)) in
     let u : IsUtf8 c.args.bytes.now = c.walk.invariant.0 (subst IsUtf8 (sym nothing_left) IsUtf8-nil) in
     record {
-      checked = (c.if-bytes-gt-MOST-BYTES.false, (agrees c.args.bytes.now).1 u);
+      checked = (c.if-bytes-gt-MOST_BYTES.false, (agrees c.args.bytes.now).1 u);
       agrees = agrees c.args.bytes.now;
       decoded = (encodes-chars c.args.bytes.now u, scalars-chars c.args.bytes.now u);
     }

@@ -7,8 +7,8 @@ use Rattle.utf8.proofs.Forms.{forms, one}
 use Rattle.utf8.proofs.Leads.{leads}
 use Rattle.utf8.proofs.front.Goals as goal
 
-pub returns-in-default : goal.returns-in-default
-returns-in-default c = record { cases = λ d rest b. omega (arith, ltb-true, forms b) }
+pub returns-in_default : goal.returns-in_default
+returns-in_default c = record { cases = λ d rest b. omega (arith, ltb-true, forms b) }
 
 pub returns-in-0 : goal.returns-in-0
 returns-in-0 c =
@@ -24,5 +24,5 @@ three-requires c = record { lead = omega (arith, leads (get_or c.args.bytes.now 
 pub four-requires : goal.four-requires
 four-requires c = record { lead = omega (arith, leads (get_or c.args.bytes.now 0 0) (omega arith)) }
 
-pub returns-in-default-leading-ones : goal.returns-in-default-leading-ones
-returns-in-default-leading-ones c = record { cases = λ d rest b. omega (arith, forms b, leads (get_or c.args.bytes.now 0 0) (omega arith)) }
+pub returns-in_default-leading_ones : goal.returns-in_default-leading_ones
+returns-in_default-leading_ones c = record { cases = λ d rest b. omega (arith, forms b, leads (get_or c.args.bytes.now 0 0) (omega arith)) }

@@ -5,26 +5,26 @@ use Rattle.std.proofs.lemmas.Bool.{ltb-true, ltb-false}
 use Rattle.utf8.proofs.Forms.{forms, three, proper_at}
 use Rattle.utf8.proofs.three.Goals as goal
 
-pub returns-in-default : goal.returns-in-default
-returns-in-default c = record { cases = λ d rest b. omega (arith, ltb-true, forms b) }
+pub returns-in_default : goal.returns-in_default
+returns-in_default c = record { cases = λ d rest b. omega (arith, ltb-true, forms b) }
 
-pub returns-in-err-tail : goal.returns-in-err-tail
-returns-in-err-tail c = rw c.from-residual.ensures record { cases = λ d rest b. c.in-err-tail.ensures.cases (omega (arith, forms b)) }
+pub returns-in_err-tail : goal.returns-in_err-tail
+returns-in_err-tail c = rw c.from_residual.ensures record { cases = λ d rest b. c.in_err-tail.ensures.cases (omega (arith, forms b)) }
 
-pub returns-in-err-code : goal.returns-in-err-code
-returns-in-err-code c = rw c.from-residual-in-err-code.ensures record { cases = λ d rest b. c.in-err-code.ensures.cases (omega (arith, forms b)) }
+pub returns-in_err-code : goal.returns-in_err-code
+returns-in_err-code c = rw c.from_residual-in_err-code.ensures record { cases = λ d rest b. c.in_err-code.ensures.cases (omega (arith, forms b)) }
 
-pub returns-in-err-proper : goal.returns-in-err-proper
-returns-in-err-proper c =
-    let second = c.in-ok-tail.ensures in
-    let third = c.in-ok-code.ensures in
-    rw c.from-residual-in-err-proper.ensures record {
-      cases = λ d rest b. c.in-err-proper.ensures.cases (proper_at b (omega (arith, forms b)));
+pub returns-in_err-proper : goal.returns-in_err-proper
+returns-in_err-proper c =
+    let second = c.in_ok-tail.ensures in
+    let third = c.in_ok-code.ensures in
+    rw c.from_residual-in_err-proper.ensures record {
+      cases = λ d rest b. c.in_err-proper.ensures.cases (proper_at b (omega (arith, forms b)));
     }
 
 pub returns : goal.returns
 returns c =
-    let second = c.in-ok-tail.ensures in
-    let third = c.in-ok-code.ensures in
-    let p = c.in-ok-proper.ensures.cases in
+    let second = c.in_ok-tail.ensures in
+    let third = c.in_ok-code.ensures in
+    let p = c.in_ok-proper.ensures.cases in
     record { cases = rw take_rest (three c.args.bytes.now _ p.1.value (omega (arith, ltb-false))) }

@@ -7,12 +7,12 @@ use Rattle.lexer.proofs.Passing.{rest_more, rest_none, end_within}
 use Rattle.lexer.proofs.Numbers.{number_whole, number_pointed, fraction_other, fraction_point}
 use Rattle.lexer.proofs.sheet_lexer.number.Goals as goal
 
-pub returns-in-default : goal.returns-in-default
-returns-in-default g c =
+pub returns-in_default : goal.returns-in_default
+returns-in_default g c =
     let input = g.D.InputData in
     let t = input.meaning c.args.input.now in
     let whole = c.run-whole.ensures.passed in
-    record { passed = number_whole t _ _ _ whole (ap fraction (rest_none t (input.lawful c.args.input.now) _ whole.start (sym c.in-default.ensures.value))) }
+    record { passed = number_whole t _ _ _ whole (ap fraction (rest_none t (input.lawful c.args.input.now) _ whole.start (sym c.in_default.ensures.value))) }
 
 pub returns-then-point-ne-POINT : goal.returns-then-point-ne-POINT
 returns-then-point-ne-POINT g c =
@@ -41,14 +41,14 @@ returns-then-fraction-eq0 g c =
           ∙ fraction_point _ (rest t c.in-Some.point.next) c.if-point-ne-POINT.false ∙ ap pointed none);
     }
 
-pub overflow-add-result : goal.overflow-add-result
-overflow-add-result g c =
+pub overflow_add-result : goal.overflow_add-result
+overflow_add-result g c =
     let input = g.D.InputData in
     let whole = c.run-whole.ensures.passed in
     record { fits = omega (arith, whole.counted, whole.wide, end_within (input.meaning c.args.input.now) (input.lawful c.args.input.now) _ whole.start) }
 
-pub overflow-add-result-2 : goal.overflow-add-result-2
-overflow-add-result-2 g c =
+pub overflow_add-result-2 : goal.overflow_add-result-2
+overflow_add-result-2 g c =
     let input = g.D.InputData in
     let t = input.meaning c.args.input.now in
     let ok = input.lawful c.args.input.now in

@@ -17,7 +17,7 @@ run_is_more Hash cs no_digit = refl
 run_is_more Other [] no_digit = refl
 run_is_more Other (c ∷ cs) no_digit = refl
 
-pub returns-in-default : goal.returns-in-default
-returns-in-default g c =
+pub returns-in_default : goal.returns-in_default
+returns-in_default g c =
     let t = g.D.InputData.meaning c.args.input.now in
-    record { passed = subst (λ n. Passed t c.args.from n c.run.result.end c.run.result.count) (run_is_more c.args.class (rest t c.args.from) c.in-default.not-Digit) c.run.ensures.passed }
+    record { passed = subst (λ n. Passed t c.args.from n c.run.result.end c.run.result.count) (run_is_more c.args.class (rest t c.args.from) c.in_default.not-Digit) c.run.ensures.passed }

@@ -10,8 +10,8 @@ use Rattle.lexer.proofs.sheet_lexer.run.Goals as goal
 pub walk-init : goal.walk-init
 walk-init g c = let input = g.D.InputData in (passed_none (input.meaning c.args.input.now) (input.lawful c.args.input.now) _ c.requires.start, omega arith)
 
-pub overflow-add-count : goal.overflow-add-count
-overflow-add-count g c =
+pub overflow_add-count : goal.overflow_add-count
+overflow_add-count g c =
     let input = g.D.InputData in
     let old = c.walk.invariant.0 in
     record { fits = omega (arith, old.wide, end_within (input.meaning c.args.input.now) (input.lawful c.args.input.now) _ old.start) }
@@ -31,26 +31,26 @@ walk-preserved g c =
     let ok = input.lawful c.args.input.now in
     let found = c.in-Some.ensures in
     let test = goes_on c.args.class in
-    let step = ap (prefix_len test) (rest_more t ok _ _ _ (sym found.value) found.next) ∙ leading_yes test _ _ (sym c.if-not-goes-on.ensures.value) in
+    let step = ap (prefix_len test) (rest_more t ok _ _ _ (sym found.value) found.next) ∙ leading_yes test _ _ (sym c.if-not-goes_on.ensures.value) in
     (passed_more t ok _ _ _ _ _ _ c.walk.invariant.0 (sym found.value) found.next, omega (arith, c.walk.invariant.1, step))
 
 -- where the run ends, it has passed all that it goes on with
 ended : (t : Text) (i end count : ℕ) (test : ℕ → Bool) → Passed t i count end count → count + prefix_len test (rest t end) ≡ prefix_len test (rest t i) → prefix_len test (rest t end) ≡ 0 → Passed t i (prefix_len test (rest t i)) end count
 ended t i end count test old sum none = subst (λ n. Passed t i n end count) (omega arith) old
 
-pub returns-then-not-goes-on : goal.returns-then-not-goes-on
-returns-then-not-goes-on g c =
+pub returns-then-not-goes_on : goal.returns-then-not-goes_on
+returns-then-not-goes_on g c =
     let input = g.D.InputData in
     let t = input.meaning c.args.input.now in
     let found = c.in-Some.ensures in
     let test = goes_on c.args.class in
-    let none = ap (prefix_len test) (rest_more t (input.lawful c.args.input.now) _ _ _ (sym found.value) found.next) ∙ leading_no test _ _ (sym c.if-not-goes-on.ensures.value) in
+    let none = ap (prefix_len test) (rest_more t (input.lawful c.args.input.now) _ _ _ (sym found.value) found.next) ∙ leading_no test _ _ (sym c.if-not-goes_on.ensures.value) in
     record { passed = ended t _ _ _ test c.walk.invariant.0 c.walk.invariant.1 none }
 
-pub returns-in-default : goal.returns-in-default
-returns-in-default g c =
+pub returns-in_default : goal.returns-in_default
+returns-in_default g c =
     let input = g.D.InputData in
     let t = input.meaning c.args.input.now in
     let test = goes_on c.args.class in
-    let none = ap (prefix_len test) (rest_none t (input.lawful c.args.input.now) _ c.walk.invariant.0.start (sym c.in-default.ensures.value)) in
+    let none = ap (prefix_len test) (rest_none t (input.lawful c.args.input.now) _ c.walk.invariant.0.start (sym c.in_default.ensures.value)) in
     record { passed = ended t _ _ _ test c.walk.invariant.0 c.walk.invariant.1 none }

@@ -7,12 +7,12 @@ pub pull-preserved : goal.pull-preserved
 pull-preserved g c =
     let source = g.S.TokenSource in
     let text = source.text c.args.source in
-    let token = c.next-token-token.result in
-    let texts = c.next-token-token.ensures.texts ∙ c.pull.invariant.0 in
-    let more = pulled_more text c.pull.index (source.coming c.pull.source) (source.coming c.next-token-token.new.self) c.next-token-token.result c.next-token-token.ensures.pulls (source.lawful c.pull.source).ended (sym c.if-is-eof.ensures.value) in
-    let pushed = c.in-ok-push-token.ensures.after ∙ ap (λ f. vec_items c.pull.out ++ line c.pull.index token (f token)) texts in (
+    let token = c.next_token-token.result in
+    let texts = c.next_token-token.ensures.texts ∙ c.pull.invariant.0 in
+    let more = pulled_more text c.pull.index (source.coming c.pull.source) (source.coming c.next_token-token.new.self) c.next_token-token.result c.next_token-token.ensures.pulls (source.lawful c.pull.source).ended (sym c.if-is_eof.ensures.value) in
+    let pushed = c.in_ok-push_token.ensures.after ∙ ap (λ f. vec_items c.pull.out ++ line c.pull.index token (f token)) texts in (
       texts,
-      ap (λ l. l ++ listed text (c.pull.index + 1) (source.coming c.next-token-token.new.self)) pushed ∙ append_assoc (vec_items c.pull.out) _ _
+      ap (λ l. l ++ listed text (c.pull.index + 1) (source.coming c.next_token-token.new.self)) pushed ∙ append_assoc (vec_items c.pull.out) _ _
           ∙ ap (λ l. vec_items c.pull.out ++ l) (sym more.0) ∙ c.pull.invariant.1,
       omega (arith, more.1, c.pull.invariant.2),
     )
@@ -20,18 +20,18 @@ pull-preserved g c =
 pub pull-smaller : goal.pull-smaller
 pull-smaller g c =
     let source = g.S.TokenSource in
-    let more = pulled_more (source.text c.args.source) c.pull.index (source.coming c.pull.source) (source.coming c.next-token-token.new.self) c.next-token-token.result c.next-token-token.ensures.pulls (source.lawful c.pull.source).ended (sym c.if-is-eof.ensures.value) in
+    let more = pulled_more (source.text c.args.source) c.pull.index (source.coming c.pull.source) (source.coming c.next_token-token.new.self) c.next_token-token.result c.next_token-token.ensures.pulls (source.lawful c.pull.source).ended (sym c.if-is_eof.ensures.value) in
     omega (arith, more.1)
 
 pub returns : goal.returns
 returns g c =
     let source = g.S.TokenSource in
     let text = source.text c.args.source in
-    let token = c.next-token-token.result in
-    let texts = c.next-token-token.ensures.texts ∙ c.pull.invariant.0 in
-    let last = pulled_last text c.pull.index (source.coming c.pull.source) (source.coming c.next-token-token.new.self) c.next-token-token.result c.next-token-token.ensures.pulls (source.lawful c.pull.source).ended (sym c.if-is-eof.ensures.value) in
+    let token = c.next_token-token.result in
+    let texts = c.next_token-token.ensures.texts ∙ c.pull.invariant.0 in
+    let last = pulled_last text c.pull.index (source.coming c.pull.source) (source.coming c.next_token-token.new.self) c.next_token-token.result c.next_token-token.ensures.pulls (source.lawful c.pull.source).ended (sym c.if-is_eof.ensures.value) in
     record {
       made =
-          c.in-ok-push-token.ensures.after ∙ ap (λ f. vec_items c.pull.out ++ line c.pull.index token (f token)) texts
+          c.in_ok-push_token.ensures.after ∙ ap (λ f. vec_items c.pull.out ++ line c.pull.index token (f token)) texts
           ∙ ap (λ l. vec_items c.pull.out ++ l) (sym last) ∙ c.pull.invariant.1;
     }

@@ -8,6 +8,6 @@ joined a b c d e x y z p q r s = r ∙ ap (λ l. l ++ d) (q ∙ ap (λ l. l ++ c
 pub returns : goal.returns
 returns c = record {
   after =
-      joined _ _ _ _ _ _ _ _ c.in-ok-extend-from-slice.ensures.items c.in-ok-push-text.ensures.after c.in-ok-extend-from-slice-2.ensures.items
-      (c.as-bytes.ensures.value ∙ c.in-ok-head.ensures.made);
+      joined _ _ _ _ _ _ _ _ c.in_ok-extend_from_slice.ensures.items c.in_ok-push_text.ensures.after c.in_ok-extend_from_slice-2.ensures.items
+      (c.as_bytes.ensures.value ∙ c.in_ok-head.ensures.made);
 }

@@ -8,7 +8,7 @@ loop-byte-preserved c =
     let text = c.args.text.now in
     let i = c.loop-byte.byte-index in
     let old = vec_items c.args.out.now in
-    c.in-ok-push-escaped.ensures.after ∙ ap (λ l. l ++ escape (get_or text i 0)) c.loop-byte.invariant ∙ flat_map_more escape old (take i text) (get_or text i 0)
+    c.in_ok-push_escaped.ensures.after ∙ ap (λ l. l ++ escape (get_or text i 0)) c.loop-byte.invariant ∙ flat_map_more escape old (take i text) (get_or text i 0)
     ∙ ap (λ l. old ++ escaped l) (sym (take_more text i 0 c.loop-byte-test.true))
 
 pub returns : goal.returns

@@ -13,6 +13,6 @@ exact items out e =
 pub returns : goal.returns
 returns g c =
     let text = g.S.TokenSource.text c.args.source.now c.args.token.now in
-    let long : length text ≡ length c.as-mut-slice.result.now = sym (c.as-mut-slice.ensures.len ∙ c.in-ok-text.ensures.len ∙ c.text-len.ensures.value) in
-    let wrote = c.write-text.ensures.after ∙ exact text c.as-mut-slice.result.now long in
-    record { after = c.in-ok-push-line.ensures.after ∙ ap (λ l. vec_items c.args.out.now ++ line c.args.index c.args.token.now l) (c.as-slice.ensures.value ∙ with_items_is c.in-ok-text.text _ (ap length wrote ∙ long ∙ c.as-mut-slice.ensures.len) ∙ wrote) }
+    let long : length text ≡ length c.as_mut_slice.result.now = sym (c.as_mut_slice.ensures.len ∙ c.in_ok-text.ensures.len ∙ c.text_len.ensures.value) in
+    let wrote = c.write_text.ensures.after ∙ exact text c.as_mut_slice.result.now long in
+    record { after = c.in_ok-push_line.ensures.after ∙ ap (λ l. vec_items c.args.out.now ++ line c.args.index c.args.token.now l) (c.as_slice.ensures.value ∙ with_items_is c.in_ok-text.text _ (ap length wrote ∙ long ∙ c.as_mut_slice.ensures.len) ∙ wrote) }

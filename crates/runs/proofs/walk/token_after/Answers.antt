@@ -11,11 +11,11 @@ use Rattle.token_streams.proofs.Steps.{together_as}
 use Rattle.runs.proofs.Walks.{Walking, walking_on, comes, opens, stays_closed}
 use Rattle.runs.proofs.walk.token_after.Goals as goal
 
-pub returns-in-err-open : goal.returns-in-err-open
-returns-in-err-open g c =
+pub returns-in_err-open : goal.returns-in_err-open
+returns-in_err-open g c =
     let passed = to_z-of_z w32 c.args.capacity c.ranges.capacity in
-    let refused = c.in-err-open.ensures.value _ c.new-unbuffered-stream.ensures.shows ∙ ap admission passed in
-    record { every_token_comes = passed_on c.from-residual.result _ c.from-residual.ensures.1 ∙ stays_closed (g.S.TokenSource.coming c.args.token-source) c.args.capacity c.args.steps _ refused }
+    let refused = c.in_err-open.ensures.value _ c.new_unbuffered-stream.ensures.shows ∙ ap admission passed in
+    record { every_token_comes = passed_on c.from_residual.result _ c.from_residual.ensures.1 ∙ stays_closed (g.S.TokenSource.coming c.args.token_source) c.args.capacity c.args.steps _ refused }
 
 pub step-preserved : goal.step-preserved
 step-preserved g c =
@@ -28,10 +28,10 @@ step-preserved g c =
 
 pub returns : goal.returns
 returns g c =
-    let feed : Feed = record { list = g.S.TokenSource.coming c.args.token-source; text = g.S.TokenSource.text c.args.token-source } in
-    let start = c.new-unbuffered-stream.ensures.shows in
+    let feed : Feed = record { list = g.S.TokenSource.coming c.args.token_source; text = g.S.TokenSource.text c.args.token_source } in
+    let start = c.new_unbuffered-stream.ensures.shows in
     let passed = to_z-of_z w32 c.args.capacity c.ranges.capacity in
-    let admitted = c.in-ok-open.ensures.value _ start ∙ ap admission passed in
+    let admitted = c.in_ok-open.ensures.value _ start ∙ ap admission passed in
     let opened = opened_with (unopened feed) c.args.capacity in
     let shown = together_as (sym (ap (after_open (unopened feed)) passed ∙ opens feed c.args.capacity admitted)) refl refl refl refl refl refl (c.open.ensures.after _ start) in
     let all : c.args.steps - c.step.left ≡ c.args.steps = omega (arith, c.step-test.false) in

@@ -9,7 +9,7 @@ loop-byte-preserved c =
     let bytes = c.args.bytes.now in
     let i = c.loop-byte.byte-index in
     let old = vec_items c.args.out.now in
-    c.in-ok-push-byte.ensures.after ∙ ap (λ l. l ++ hex_byte (get_or bytes i 0)) c.loop-byte.invariant ∙ flat_map_more hex_byte old (take i bytes) (get_or bytes i 0)
+    c.in_ok-push_byte.ensures.after ∙ ap (λ l. l ++ hex_byte (get_or bytes i 0)) c.loop-byte.invariant ∙ flat_map_more hex_byte old (take i bytes) (get_or bytes i 0)
     ∙ ap (λ l. old ++ flat_map hex_byte l) (sym (take_more bytes i 0 c.loop-byte-test.true))
 
 pub returns : goal.returns

@@ -3,4 +3,4 @@ use Rattle.scripts.proofs.answers.push_word.Goals as goal
 
 pub returns : goal.returns
 returns c =
-    record { after = word_added _ _ _ _ _ _ c.in-ok-push.ensures.items c.in-ok-extend-from-slice.ensures.items c.in-Some.ensures.cases }
+    record { after = word_added _ _ _ _ _ _ c.in_ok-push.ensures.items c.in_ok-extend_from_slice.ensures.items c.in-Some.ensures.cases }

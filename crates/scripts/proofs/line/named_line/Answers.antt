@@ -10,10 +10,10 @@ returns-then-is c =
 
 pub returns-then-is-2 : goal.returns-then-is-2
 returns-then-is-2 c =
-    let told = c.token-line.ensures.value ∙ ap (λ ks. if_read new_token (token_of ks)) c.as-slice.ensures.value in
+    let told = c.token_line.ensures.value ∙ ap (λ ks. if_read new_token (token_of ks)) c.as_slice.ensures.value in
     record { value = name_token c.args.name.now (vec_items c.args.found) _ c.is.ensures.value _ _ c.if-is.false c.is-else-is.ensures.value c.if-is-2.true told }
 
 pub returns : goal.returns
 returns c =
-    let told = c.call-line.ensures.value ∙ ap (λ ks. if_read ask (call_of c.args.name.now ks)) c.as-slice-else-is-2.ensures.value in
+    let told = c.call_line.ensures.value ∙ ap (λ ks. if_read ask (call_of c.args.name.now ks)) c.as_slice-else-is-2.ensures.value in
     record { value = name_call c.args.name.now (vec_items c.args.found) _ c.is.ensures.value _ _ c.if-is.false c.is-else-is.ensures.value c.if-is-2.false told }

@@ -4,4 +4,4 @@ use Rattle.scripts.proofs.numerals.halves.Goals as goal
 
 pub words-preserved : goal.words-preserved
 words-preserved c =
-    word_more half _ _ _ _ _ _ _ c.words.invariant c.in-Some.ensures.cases c.in-Some-half.ensures.value c.in-ok-push.ensures.items
+    word_more half _ _ _ _ _ _ _ c.words.invariant c.in-Some.ensures.cases c.in-Some-half.ensures.value c.in_ok-push.ensures.items

@@ -3,9 +3,9 @@ use Rattle.std.proofs.lemmas.Bool.{eqb-false}
 use Rattle.scripts.proofs.Digits.{digit_more, digit_missing, too_large, all_digits, sum_is}
 use Rattle.scripts.proofs.numerals.natural.Goals as goal
 
-pub returns-in-default : goal.returns-in-default
-returns-in-default c =
-    record { value = digit_missing _ _ _ _ c.loop-byte.invariant.0 _ _ c.from.ensures (omega arith) c.in-default.ensures.value; bound = tt }
+pub returns-in_default : goal.returns-in_default
+returns-in_default c =
+    record { value = digit_missing _ _ _ _ c.loop-byte.invariant.0 _ _ c.from.ensures (omega arith) c.in_default.ensures.value; bound = tt }
 
 pub returns-then-number-most : goal.returns-then-number-most
 returns-then-number-most c =
@@ -22,6 +22,6 @@ loop-byte-preserved c =
 
 pub returns : goal.returns
 returns c =
-    let some = eqb-false _ _ (sym c.if-is-empty.ensures) in
+    let some = eqb-false _ _ (sym c.if-is_empty.ensures) in
     let most = c.loop-byte.invariant.1 in
     record { value = all_digits _ _ _ _ c.loop-byte.invariant.0 _ (omega (arith, some)) c.loop-byte-test.false most; bound = most }

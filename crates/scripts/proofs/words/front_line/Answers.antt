@@ -4,6 +4,6 @@ use Rattle.scripts.proofs.words.front_line.Goals as goal
 
 pub returns : goal.returns
 returns c =
-    let end = c.run-up-to-end.ensures.value in
-    let line = c.split-at.ensures.front ∙ ap (λ n. take n c.args.script.now) end in
-    record { line = line; rest = past_one _ _ _ _ _ _ c.split-at.ensures.back c.min.ensures c.split-at-2.ensures.back end; shorter = λ some. omega (arith, c.split-at.ensures.back_len, c.split-at-2.ensures.back_len, c.min.ensures) }
+    let end = c.run_up_to-end.ensures.value in
+    let line = c.split_at.ensures.front ∙ ap (λ n. take n c.args.script.now) end in
+    record { line = line; rest = past_one _ _ _ _ _ _ c.split_at.ensures.back c.min.ensures c.split_at-2.ensures.back end; shorter = λ some. omega (arith, c.split_at.ensures.back_len, c.split_at-2.ensures.back_len, c.min.ensures) }

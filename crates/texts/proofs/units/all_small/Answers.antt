@@ -10,8 +10,8 @@ loop-unit-preserved g c =
     let here = small_more g.T.Unit.number c.args.units.now c.loop-unit.unit-index c.unit-item.result true c.loop-unit-test.true c.unit-item.is (lt-ltb _ (2 ^ 31) (omega (arith, c.number.ensures.value))) in
     sym here ∙ c.loop-unit.invariant
 
-pub returns-then-number-ge-CODE-LIMIT : goal.returns-then-number-ge-CODE-LIMIT
-returns-then-number-ge-CODE-LIMIT g c =
+pub returns-then-number-ge-CODE_LIMIT : goal.returns-then-number-ge-CODE_LIMIT
+returns-then-number-ge-CODE_LIMIT g c =
     let here = small_more g.T.Unit.number c.args.units.now c.loop-unit.unit-index c.unit-item.result false c.loop-unit-test.true c.unit-item.is (le-ltb _ (2 ^ 31) (omega (arith, c.number.ensures.value))) in
     record { value = sym here ∙ c.loop-unit.invariant }
 

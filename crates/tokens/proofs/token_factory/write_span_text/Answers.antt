@@ -8,4 +8,4 @@ returns-then-shows g c =
     let k = c.args.token.now in
     let out = c.args.out.now in
     let text = shown_text _ _ k _ (search rules) (search rules) c.shows.ensures.value c.if-shows.true c.interval.ensures.value in
-    record { value = c.to-display.ensures.value ∙ ap (λ l. written l out) text; after = c.to-display.ensures.after ∙ ap (λ l. overwritten l out) text }
+    record { value = c.to_display.ensures.value ∙ ap (λ l. written l out) text; after = c.to_display.ensures.after ∙ ap (λ l. overwritten l out) text }

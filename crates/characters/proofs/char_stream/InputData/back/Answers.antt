@@ -2,10 +2,10 @@ use Rattle.std.proofs.Common.{sym, ◌∙◌, arith}
 use Rattle.characters.proofs.Starts.{back_step, back_stop}
 use Rattle.characters.proofs.char_stream.InputData.back.Goals as goal
 
-pub returns-in-default : goal.returns-in-default
-returns-in-default g c =
+pub returns-in_default : goal.returns-in_default
+returns-in_default g c =
     let self = g.Self.InputData in
-    record { value = sym (back_stop (self.meaning c.args.self.now) (self.lawful c.args.self.now) _ _ (omega arith) (sym c.in-default.ensures.value)) ∙ c.walk.invariant }
+    record { value = sym (back_stop (self.meaning c.args.self.now) (self.lawful c.args.self.now) _ _ (omega arith) (sym c.in_default.ensures.value)) ∙ c.walk.invariant }
 
 pub walk-preserved : goal.walk-preserved
 walk-preserved g c =

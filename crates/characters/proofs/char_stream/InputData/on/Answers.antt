@@ -12,4 +12,4 @@ pub walk-preserved : goal.walk-preserved
 walk-preserved g c =
     let self = g.Self.InputData in
     let t = self.meaning c.args.self.now in
-    ap (λ s. on t s (c.walk.left - 1)) c.start-from-at.ensures.value ∙ sym (on_step t (self.lawful c.args.self.now) _ _ (omega arith) (omega (arith, c.len.ensures.value))) ∙ c.walk.invariant
+    ap (λ s. on t s (c.walk.left - 1)) c.start_from-at.ensures.value ∙ sym (on_step t (self.lawful c.args.self.now) _ _ (omega arith) (omega (arith, c.len.ensures.value))) ∙ c.walk.invariant

@@ -2,18 +2,18 @@ use Rattle.std.proofs.Common.{refl}
 use Rattle.input_streams.proofs.Moves.{start_small, is_reset}
 use Rattle.input_streams.proofs.input_stream.InputStream.reset.Goals as goal
 
-pub invariant-of-self : goal.invariant-of-self
-invariant-of-self g c =
+pub invariant_of-self : goal.invariant_of-self
+invariant_of-self g c =
     let input = g.D.InputData in
     let self = c.args.self.now in
-    (start_small (input.meaning self.text) (input.lawful self.text) _ 0 c.start-from-self.ensures.value, (self.alike, tt))
+    record { inside = start_small (input.meaning self.text) (input.lawful self.text) _ 0 c.start_from-self.ensures.value; alike = self.alike }
 
 pub returns : goal.returns
 returns g c =
     let input = g.D.InputData in
     let self = c.args.self.now in
     record {
-      after = λ s shown. is_reset (input.meaning self.text) (input.lawful self.text) _ _ s shown _ c.start-from-self.ensures.value;
+      after = λ s shown. is_reset (input.meaning self.text) (input.lawful self.text) _ _ s shown _ c.start_from-self.ensures.value;
       marks = refl;
       unaltered = refl;
     }

@@ -2,11 +2,11 @@ use Rattle.std.proofs.Common.{sym, refl}
 use Rattle.input_streams.proofs.Moves.{start_small, not_consumed, is_consumed}
 use Rattle.input_streams.proofs.input_stream.InputStreamIntStream.consume.Goals as goal
 
-pub returns-in-default : goal.returns-in-default
-returns-in-default g c =
+pub returns-in_default : goal.returns-in_default
+returns-in_default g c =
     let input = g.D.InputData in
     let text = c.args.self.now.text in
-    let none = sym c.in-default.ensures.value in
+    let none = sym c.in_default.ensures.value in
     record {
       value = λ s shown. (not_consumed (input.meaning text) (input.lawful text) _ _ s shown none).0;
       after = λ s shown. (not_consumed (input.meaning text) (input.lawful text) _ _ s shown none).1;
@@ -14,11 +14,11 @@ returns-in-default g c =
       unaltered = refl;
     }
 
-pub invariant-of-self-2 : goal.invariant-of-self-2
-invariant-of-self-2 g c =
+pub invariant_of-self-2 : goal.invariant_of-self-2
+invariant_of-self-2 g c =
     let input = g.D.InputData in
     let self = c.args.self.now in
-    (start_small (input.meaning self.text) (input.lawful self.text) _ _ c.in-Some.ensures.next, (self.alike, tt))
+    record { inside = start_small (input.meaning self.text) (input.lawful self.text) _ _ c.in-Some.ensures.next; alike = self.alike }
 
 pub returns : goal.returns
 returns g c =

@@ -3,18 +3,20 @@ use Rattle.characters.specs.Text.{start_from}
 use Rattle.characters.proofs.Starts.{start_from_start}
 use Rattle.lexer.proofs.Passing.{end_within}
 use Rattle.lexer.proofs.Pulling.{pulled_eof, pulled_more, passed_wide, line_feed_line, line_feed_column, same_line, same_line_column}
+use Rattle.lexer.specs.contracts.class.Class.{the_type}
+use denote.Enum.Bare.{same_true, same_false}
 use Rattle.lexer.proofs.sheet_lexer.SheetLexerTokenSource.next_token.Goals as goal
 
-pub returns-in-default : goal.returns-in-default
-returns-in-default g c =
+pub returns-in_default : goal.returns-in_default
+returns-in_default g c =
     let self = c.args.self.now in
     record {
-      pulls = pulled_eof (g.D.InputData.meaning self.input) (g.D.InputData.lawful self.input) self.at self.line self.column _ (sym c.in-default.ensures.value) c.eof.ensures.value;
+      pulls = pulled_eof (g.D.InputData.meaning self.input) (g.D.InputData.lawful self.input) self.at self.line self.column _ (sym c.in_default.ensures.value) c.eof.ensures.value;
       texts = refl;
     }
 
-pub rest-of-match-piece-requires : goal.rest-of-match-piece-requires
-rest-of-match-piece-requires g c =
+pub rest_of_match-piece-requires : goal.rest_of_match-piece-requires
+rest_of_match-piece-requires g c =
     let self = c.args.self.now in
     let t = g.D.InputData.meaning self.input in
     let on = c.in-Some.ensures.next in
@@ -23,37 +25,37 @@ rest-of-match-piece-requires g c =
 pub token-token-requires : goal.token-token-requires
 token-token-requires g c =
     let self = c.args.self.now in
-    record { fits = end_within (g.D.InputData.meaning self.input) (g.D.InputData.lawful self.input) _ c.rest-of-match-piece.ensures.passed.start }
+    record { fits = end_within (g.D.InputData.meaning self.input) (g.D.InputData.lawful self.input) _ c.rest_of_match-piece.ensures.passed.start }
 
-pub invariant-of-self-then-eq : goal.invariant-of-self-then-eq
-invariant-of-self-then-eq g c =
+pub invariant_of-self-then-eq : goal.invariant_of-self-then-eq
+invariant_of-self-then-eq g c =
     let self = c.args.self.now in
     let t = g.D.InputData.meaning self.input in
     let ok = g.D.InputData.lawful self.input in
     let found = c.in-Some.ensures in
-    let passed = c.rest-of-match-piece.ensures.passed in
+    let passed = c.rest_of_match-piece.ensures.passed in
     let wide = passed_wide t ok _ _ _ _ _ _ (sym found.value) found.next passed in
-    (end_within t ok _ passed.start, (omega (arith, self.lines, wide), (omega arith, tt)))
+    record { inside = end_within t ok _ passed.start; lines = omega (arith, self.lines, wide); columns = omega arith }
 
-pub invariant-of-self-else-eq : goal.invariant-of-self-else-eq
-invariant-of-self-else-eq g c =
+pub invariant_of-self-else-eq : goal.invariant_of-self-else-eq
+invariant_of-self-else-eq g c =
     let self = c.args.self.now in
     let t = g.D.InputData.meaning self.input in
     let ok = g.D.InputData.lawful self.input in
     let found = c.in-Some.ensures in
-    let passed = c.rest-of-match-piece.ensures.passed in
+    let passed = c.rest_of_match-piece.ensures.passed in
     let wide = passed_wide t ok _ _ _ _ _ _ (sym found.value) found.next passed in
-    (end_within t ok _ passed.start, (omega (arith, self.lines, wide), (omega (arith, self.columns, wide), tt)))
+    record { inside = end_within t ok _ passed.start; lines = omega (arith, self.lines, wide); columns = omega (arith, self.columns, wide) }
 
 pub returns-then-eq : goal.returns-then-eq
 returns-then-eq g c =
     let self = c.args.self.now in
     let found = c.in-Some.ensures in
-    let feed = c.if-eq.ensures in
+    let feed = same_true the_type tt _ _ (sym c.if-eq.ensures) in
     record {
       pulls =
-          pulled_more (g.D.InputData.meaning self.input) (g.D.InputData.lawful self.input) _ _ _ _ _ _ _ _ _ _ _ (sym found.value) found.next c.class-of-class.ensures.value
-          c.rest-of-match-piece.ensures.passed c.token-token.ensures.value (sym (line_feed_line _ self.line feed)) (sym (line_feed_column _ _ self.column feed));
+          pulled_more (g.D.InputData.meaning self.input) (g.D.InputData.lawful self.input) _ _ _ _ _ _ _ _ _ _ _ (sym found.value) found.next c.class_of-class.ensures.value
+          c.rest_of_match-piece.ensures.passed c.token-token.ensures.value (sym (line_feed_line _ self.line feed)) (sym (line_feed_column _ _ self.column feed));
       texts = refl;
     }
 
@@ -61,10 +63,10 @@ pub returns-else-eq : goal.returns-else-eq
 returns-else-eq g c =
     let self = c.args.self.now in
     let found = c.in-Some.ensures in
-    let other = c.if-eq.ensures in
+    let other = same_false the_type _ _ (sym c.if-eq.ensures) in
     record {
       pulls =
-          pulled_more (g.D.InputData.meaning self.input) (g.D.InputData.lawful self.input) _ _ _ _ _ _ _ _ _ _ _ (sym found.value) found.next c.class-of-class.ensures.value
-          c.rest-of-match-piece.ensures.passed c.token-token.ensures.value (sym (same_line _ self.line other)) (sym (same_line_column _ _ self.column other));
+          pulled_more (g.D.InputData.meaning self.input) (g.D.InputData.lawful self.input) _ _ _ _ _ _ _ _ _ _ _ (sym found.value) found.next c.class_of-class.ensures.value
+          c.rest_of_match-piece.ensures.passed c.token-token.ensures.value (sym (same_line _ self.line other)) (sym (same_line_column _ _ self.column other));
       texts = refl;
     }

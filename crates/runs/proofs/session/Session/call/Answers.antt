@@ -7,35 +7,35 @@ use Rattle.runs.specs.Runs.{replied, after, left_by}
 use Rattle.runs.proofs.Synced.{same_out}
 use Rattle.runs.proofs.session.Session.call.Goals as goal
 
-pub invariant-of-self : goal.invariant-of-self
-invariant-of-self g c =
+pub invariant_of-self : goal.invariant_of-self
+invariant_of-self g c =
     let self = c.args.self.now in
     let left = c.open.new.self.marks in
-    (self.all ∙ sym (same_out self.stream.marks.numbering left.numbering self.stream.marks.out left.out c.open.ensures.marks), (self.falling, tt))
+    record { all = self.all ∙ sym (same_out self.stream.marks.numbering left.numbering self.stream.marks.out left.out c.open.ensures.marks); falling = self.falling }
 
-pub invariant-of-self-in-Consume : goal.invariant-of-self-in-Consume
-invariant-of-self-in-Consume g c =
+pub invariant_of-self-in-Consume : goal.invariant_of-self-in-Consume
+invariant_of-self-in-Consume g c =
     let self = c.args.self.now in
     let left = c.consume.new.self.marks in
-    (self.all ∙ sym (same_out self.stream.marks.numbering left.numbering self.stream.marks.out left.out (ap (λ t. t.marks) c.consume.ensures.status)), (self.falling, tt))
+    record { all = self.all ∙ sym (same_out self.stream.marks.numbering left.numbering self.stream.marks.out left.out (ap (λ t. t.marks) c.consume.ensures.status)); falling = self.falling }
 
-pub invariant-of-self-in-La : goal.invariant-of-self-in-La
-invariant-of-self-in-La g c =
+pub invariant_of-self-in-La : goal.invariant_of-self-in-La
+invariant_of-self-in-La g c =
     let self = c.args.self.now in
     let left = c.la.new.self.marks in
-    (self.all ∙ sym (same_out self.stream.marks.numbering left.numbering self.stream.marks.out left.out (ap (λ t. t.marks) c.la.ensures.status)), (self.falling, tt))
+    record { all = self.all ∙ sym (same_out self.stream.marks.numbering left.numbering self.stream.marks.out left.out (ap (λ t. t.marks) c.la.ensures.status)); falling = self.falling }
 
-pub invariant-of-self-in-Lt : goal.invariant-of-self-in-Lt
-invariant-of-self-in-Lt g c =
+pub invariant_of-self-in-Lt : goal.invariant_of-self-in-Lt
+invariant_of-self-in-Lt g c =
     let self = c.args.self.now in
     let left = c.lt.new.self.marks in
-    (self.all ∙ sym (same_out self.stream.marks.numbering left.numbering self.stream.marks.out left.out (ap (λ t. t.marks) c.lt.ensures.status)), (self.falling, tt))
+    record { all = self.all ∙ sym (same_out self.stream.marks.numbering left.numbering self.stream.marks.out left.out (ap (λ t. t.marks) c.lt.ensures.status)); falling = self.falling }
 
-pub invariant-of-self-in-Seek : goal.invariant-of-self-in-Seek
-invariant-of-self-in-Seek g c =
+pub invariant_of-self-in-Seek : goal.invariant_of-self-in-Seek
+invariant_of-self-in-Seek g c =
     let self = c.args.self.now in
     let left = c.seek.new.self.marks in
-    (self.all ∙ sym (same_out self.stream.marks.numbering left.numbering self.stream.marks.out left.out (ap (λ t. t.marks) c.seek.ensures.status)), (self.falling, tt))
+    record { all = self.all ∙ sym (same_out self.stream.marks.numbering left.numbering self.stream.marks.out left.out (ap (λ t. t.marks) c.seek.ensures.status)); falling = self.falling }
 
 pub returns-in-Open : goal.returns-in-Open
 returns-in-Open g c =

@@ -6,7 +6,7 @@ use Rattle.streams.proofs.mark.Marks.release.Goals as goal
 pub returns : goal.returns
 returns c =
     let self = c.args.self.now in
-    let taken = sym c.if-not-is-latest.ensures.value in
+    let taken = sym c.if-not-is_latest.ensures.value in
     record {
       value = release_given (numbers self.numbering self.out) c.args.mark.number taken;
       back = tt;

@@ -6,15 +6,15 @@ use Rattle.texts.proofs.Checked.{few_given, text_given, text_refused}
 use Rattle.texts.proofs.units.Units.new.Goals as goal
 use Rattle.texts.proofs.units.Units.new.Goals.{in-Ok, in-Err}
 
-pub invariant-of-result : goal.invariant-of-result
-invariant-of-result g c =
-    let units = c.args.units.now in (
-      elim c.match-check.branch [
+pub invariant_of-result : goal.invariant_of-result
+invariant_of-result g c =
+    let units = c.args.units.now in
+    record {
+      few = elim c.match-check.branch [
         | in-Ok w ↦ omega (arith, ap (λ r. length r.0.now) w.result-is, length-map units g.T.Unit.number, few_given (map g.T.Unit.number units) _ w.in-Ok.ensures.value)
         | in-Err w ↦ omega (arith, ap (λ r. length r.0.now) w.result-is)
-      ],
-      tt,
-    )
+      ];
+    }
 
 pub returns : goal.returns
 returns g c =

@@ -31,8 +31,8 @@ fit c =
       | in-Err w ↦ subst (λ r. Fit r.0.now) (sym w.result-is) none_fit
     ]
 
-pub invariant-of-result : goal.invariant-of-result
-invariant-of-result c = ((fit c).few, ((fit c).encoded, ((fit c).valid, tt)))
+pub invariant_of-result : goal.invariant_of-result
+invariant_of-result c = record { few = (fit c).few; encoded = (fit c).encoded; valid = (fit c).valid }
 
 pub returns : goal.returns
 returns c =

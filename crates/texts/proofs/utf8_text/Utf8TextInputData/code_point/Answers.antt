@@ -29,8 +29,8 @@ returns-then-lead-lt128 c =
 begins : (c : goal.In-Some) → Begins (drop c.args.at c.args.self.now.bytes.now) c.in-Some.code c.in-Some.rest.now
 begins c = subst (λ l. Begins l c.in-Some.code c.in-Some.rest.now) (take_rest c.args.self.now.bytes.now c.args.at) c.in-Some.ensures.cases
 
-pub overflow-sub-result : goal.overflow-sub-result
-overflow-sub-result c = rest_fits c.args.self.now.bytes.now c.args.at _ _ (begins c)
+pub overflow_sub-result : goal.overflow_sub-result
+overflow_sub-result c = rest_fits c.args.self.now.bytes.now c.args.at _ _ (begins c)
 
 pub returns-in-Some : goal.returns-in-Some
 returns-in-Some c =

@@ -10,8 +10,8 @@ use Rattle.texts.proofs.utf8_text.Utf8TextInputData.part.Goals.{then-cuts, else-
 held : (t : Utf8Text) → Fit t.bytes.now
 held t = record { few = t.few; encoded = t.encoded; valid = t.valid }
 
-pub slice-bounds-result-end : goal.slice-bounds-result-end
-slice-bounds-result-end c =
+pub slice_bounds-result-end : goal.slice_bounds-result-end
+slice_bounds-result-end c =
     let order = cut_order c.args.self.now.bytes.now c.args.from c.args.to c.args.self.now.encoded (sym c.if-cuts.ensures.value) in omega (arith, order.0, order.1)
 
 fit : (c : goal.Joined-cuts) → Fit c.if-cuts.result.0.now
@@ -24,8 +24,8 @@ fit c =
       | else-cuts w ↦ subst (λ r. Fit r.0.now) (sym w.result-is) none_fit
     ]
 
-pub invariant-of-result : goal.invariant-of-result
-invariant-of-result c = ((fit c).few, ((fit c).encoded, ((fit c).valid, tt)))
+pub invariant_of-result : goal.invariant_of-result
+invariant_of-result c = record { few = (fit c).few; encoded = (fit c).encoded; valid = (fit c).valid }
 
 pub returns : goal.returns
 returns c =

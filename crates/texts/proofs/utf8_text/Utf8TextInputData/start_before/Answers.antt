@@ -19,8 +19,8 @@ back-init c =
 on : (c : goal.In-back) → (0 < c.back.start) × (back (encoded_text c.args.self.now.bytes.now) (c.back.start + 1) 1 ≡ back (encoded_text c.args.self.now.bytes.now) c.back.start 1)
 on c = back_on c.args.self.now.bytes.now c.args.self.now.encoded c.back.start c.back.invariant.0 (sym c.back-test.ensures.value)
 
-pub overflow-sub-start-in-back : goal.overflow-sub-start-in-back
-overflow-sub-start-in-back c = (on c).0
+pub overflow_sub-start-in-back : goal.overflow_sub-start-in-back
+overflow_sub-start-in-back c = (on c).0
 
 pub back-preserved : goal.back-preserved
 back-preserved c =

@@ -5,21 +5,21 @@ use Rattle.token_streams.proofs.Together.{frees}
 use Rattle.token_streams.proofs.Steps.{together_as, seek_finds_full, seek_finds}
 use Rattle.token_streams.proofs.token_stream.UnbufferedTokenStream.go_to.Goals as goal
 
-pub returns-in-default : goal.returns-in-default
-returns-in-default g c =
+pub returns-in_default : goal.returns-in_default
+returns-in_default g c =
     let see = c.see.ensures in
     let low : (view c.args.self.now.buffer.window).start ≤ c.args.index = omega (arith, c.start.ensures.value, c.if-index-start.false) in
     record {
-      value = λ u s o. (seek_finds_full u _ _ _ _ _ _ s (ap (λ t. t.opened) s.same_status ∙ o) _ _ _ see.start see.capacity see.after see.texts c.args.index low see.pulled c.in-default.ensures.value).0;
-      after = λ u s o. (seek_finds_full u _ _ _ _ _ _ s (ap (λ t. t.opened) s.same_status ∙ o) _ _ _ see.start see.capacity see.after see.texts c.args.index low see.pulled c.in-default.ensures.value).1;
+      value = λ u s o. (seek_finds_full u _ _ _ _ _ _ s (ap (λ t. t.opened) s.same_status ∙ o) _ _ _ see.start see.capacity see.after see.texts c.args.index low see.pulled c.in_default.ensures.value).0;
+      after = λ u s o. (seek_finds_full u _ _ _ _ _ _ s (ap (λ t. t.opened) s.same_status ∙ o) _ _ _ see.start see.capacity see.after see.texts c.args.index low see.pulled c.in_default.ensures.value).1;
       status = refl;
     }
 
-pub invariant-of-self-2 : goal.invariant-of-self-2
-invariant-of-self-2 g c =
+pub invariant_of-self-2 : goal.invariant_of-self-2
+invariant_of-self-2 g c =
     let held : c.in-Some.at < end (view c.see.new.self.window) = c.in-Some.ensures.held in
     let window = c.see.new.self.window in
-    (omega (arith, held, ring_end window.places window.start window.end window.ordered, window.few), (c.args.self.now.falling, (c.args.self.now.unmarked, tt)))
+    record { few = omega (arith, held, ring_end window.places window.start window.end window.ordered, window.few); falling = c.args.self.now.falling; unmarked = c.args.self.now.unmarked }
 
 pub returns : goal.returns
 returns g c =

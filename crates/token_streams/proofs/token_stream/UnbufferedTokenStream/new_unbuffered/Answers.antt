@@ -10,5 +10,5 @@ returns g c =
     let made = c.new.ensures in
     let marks = ap (λ m. numbers c.new-2.result.numbering m) c.new-2.ensures.none in
     record {
-      shows = together_as refl made.window (ap source.coming made.source) (ap source.text made.source) refl refl (ap (λ ms. record { opened = false; marks = ms }) marks) (together_new (record { list = source.coming c.args.token-source; text = source.text c.args.token-source }) _ (source.lawful c.args.token-source));
+      shows = together_as refl made.window (ap source.coming made.source) (ap source.text made.source) refl refl (ap (λ ms. record { opened = false; marks = ms }) marks) (together_new (record { list = source.coming c.args.token_source; text = source.text c.args.token_source }) _ (source.lawful c.args.token_source));
     }

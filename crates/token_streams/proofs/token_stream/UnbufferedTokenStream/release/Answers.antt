@@ -18,7 +18,7 @@ returns g c =
     let marks = c.release.ensures.after ∙ marks_as_releasing t c.if-not-self.false n in
     let status = ap (λ ms. record { opened = self.open; marks = ms }) marks in
     record {
-      value = c.in-ok-release.ensures.value ∙ when_opened t _ c.if-not-self.false;
+      value = c.in_ok-release.ensures.value ∙ when_opened t _ c.if-not-self.false;
       back = tt;
       after = λ u s.
           let same = ap (λ t. marks_after_release t n) s.same_status in

@@ -8,8 +8,8 @@ use Rattle.token_streams.proofs.Steps.{is_open}
 use Rattle.windows.proofs.Ring.{ring_end}
 use Rattle.token_streams.proofs.token_stream.UnbufferedTokenStream.size.Goals as goal
 
-pub overflow-cast-result : goal.overflow-cast-result
-overflow-cast-result g c =
+pub overflow_cast-result : goal.overflow_cast-result
+overflow_cast-result g c =
     let window = c.args.self.now.buffer.window in
     let few : c.end.result - c.start.result ≤ 1048576 = omega (arith, c.end.ensures.value, ring_end window.places window.start window.end window.ordered, window.few) in
     search rules

@@ -12,5 +12,5 @@ good c =
       | in-Err w ↦ subst (λ r. Good r.0.now × (r.1.1.0 < length r.0.now)) (sym w.result-is) (lone_good, lone_good.some)
     ]
 
-pub invariant-of-result : goal.invariant-of-result
-invariant-of-result c = ((good c).0.ended, ((good c).0.few, ((good c).1, tt)))
+pub invariant_of-result : goal.invariant_of-result
+invariant_of-result c = record { ended = (good c).0.ended; few = (good c).0.few; inside = (good c).1 }

@@ -8,28 +8,28 @@ use Rattle.windows.proofs.buffer.Buffer.put.Goals as goal
 pub put-init : goal.put-init
 put-init g c = (put_none (g.S.TokenSource.text c.args.self.now.source) (view c.args.self.now.window) c.args.from c.args.to c.args.out.now c.requires.fits, omega arith)
 
-pub overflow-add-end : goal.overflow-add-end
-overflow-add-end g c =
+pub overflow_add-end : goal.overflow_add-end
+overflow_add-end g c =
     let low : (view c.args.self.now.window).start ≤ c.put.at = omega (arith, c.requires.held.0, c.put.invariant.1) in
-    let within = put_end (g.S.TokenSource.text c.args.self.now.source) (view c.args.self.now.window) c.args.from c.args.to c.put.at c.put.len c.in-Some.token _ _ low c.put-test.true c.requires.held.1 c.in-Some.ensures.value c.put.invariant.0 c.text-len.result c.if-is-eof.ensures.value c.text-len.ensures.value in
+    let within = put_end (g.S.TokenSource.text c.args.self.now.source) (view c.args.self.now.window) c.args.from c.args.to c.put.at c.put.len c.in-Some.token _ _ low c.put-test.true c.requires.held.1 c.in-Some.ensures.value c.put.invariant.0 c.text_len.result c.if-is_eof.ensures.value c.text_len.ensures.value in
     search rules
 
-pub slice-bounds-write-text-end : goal.slice-bounds-write-text-end
-slice-bounds-write-text-end g c =
+pub slice_bounds-write_text-end : goal.slice_bounds-write_text-end
+slice_bounds-write_text-end g c =
     let low : (view c.args.self.now.window).start ≤ c.put.at = omega (arith, c.requires.held.0, c.put.invariant.1) in
-    put_end (g.S.TokenSource.text c.args.self.now.source) (view c.args.self.now.window) c.args.from c.args.to c.put.at c.put.len c.in-Some.token _ _ low c.put-test.true c.requires.held.1 c.in-Some.ensures.value c.put.invariant.0 c.text-len.result c.if-is-eof.ensures.value c.text-len.ensures.value
+    put_end (g.S.TokenSource.text c.args.self.now.source) (view c.args.self.now.window) c.args.from c.args.to c.put.at c.put.len c.in-Some.token _ _ low c.put-test.true c.requires.held.1 c.in-Some.ensures.value c.put.invariant.0 c.text_len.result c.if-is_eof.ensures.value c.text_len.ensures.value
 
-pub returns-in-default : goal.returns-in-default
-returns-in-default g c =
+pub returns-in_default : goal.returns-in_default
+returns-in_default g c =
     let v = view c.args.self.now.window in
     let low : v.start ≤ c.put.at = omega (arith, c.requires.held.0, c.put.invariant.1) in
-    absurd (not_held (g.S.TokenSource.text c.args.self.now.source) v c.put.at c.args.to low c.put-test.true c.requires.held.1 c.in-default.ensures.value)
+    absurd (not_held (g.S.TokenSource.text c.args.self.now.source) v c.put.at c.args.to low c.put-test.true c.requires.held.1 c.in_default.ensures.value)
 
-pub returns-then-is-eof : goal.returns-then-is-eof
-returns-then-is-eof g c =
+pub returns-then-is_eof : goal.returns-then-is_eof
+returns-then-is_eof g c =
     let v = view c.args.self.now.window in
     let low : v.start ≤ c.put.at = omega (arith, c.requires.held.0, c.put.invariant.1) in
-    let done = put_stop (g.S.TokenSource.text c.args.self.now.source) v c.args.from c.args.to c.put.at c.put.len c.in-Some.token _ _ low c.put-test.true c.requires.held.1 c.in-Some.ensures.value c.put.invariant.0 (sym c.if-is-eof.ensures.value) in
+    let done = put_stop (g.S.TokenSource.text c.args.self.now.source) v c.args.from c.args.to c.put.at c.put.len c.in-Some.token _ _ low c.put-test.true c.requires.held.1 c.in-Some.ensures.value c.put.invariant.0 (sym c.if-is_eof.ensures.value) in
     record { value = done.0; after = done.1 }
 
 pub put-preserved : goal.put-preserved
@@ -37,11 +37,11 @@ put-preserved g c =
     let v = view c.args.self.now.window in
     let text = g.S.TokenSource.text c.args.self.now.source in
     let low : v.start ≤ c.put.at = omega (arith, c.requires.held.0, c.put.invariant.1) in
-    let end = c.put.len + c.text-len.result in
-    let within : end ≤ length c.put.out = put_end text v c.args.from c.args.to c.put.at c.put.len c.in-Some.token _ _ low c.put-test.true c.requires.held.1 c.in-Some.ensures.value c.put.invariant.0 c.text-len.result c.if-is-eof.ensures.value c.text-len.ensures.value in
-    let wide : length (between c.put.len end c.put.out) ≡ length (text c.in-Some.token) = omega (arith, length-between c.put.out c.put.len end within, c.text-len.ensures.value) in
-    let written = c.write-text.ensures.after ∙ just_written (text c.in-Some.token) (between c.put.len end c.put.out) wide in
-    let more = put_more text v c.args.from c.args.to c.put.at c.put.len c.in-Some.token _ _ low c.put-test.true c.requires.held.1 c.in-Some.ensures.value c.put.invariant.0 c.text-len.result c.write-text.new.out c.if-is-eof.ensures.value c.text-len.ensures.value written in
+    let end = c.put.len + c.text_len.result in
+    let within : end ≤ length c.put.out = put_end text v c.args.from c.args.to c.put.at c.put.len c.in-Some.token _ _ low c.put-test.true c.requires.held.1 c.in-Some.ensures.value c.put.invariant.0 c.text_len.result c.if-is_eof.ensures.value c.text_len.ensures.value in
+    let wide : length (between c.put.len end c.put.out) ≡ length (text c.in-Some.token) = omega (arith, length-between c.put.out c.put.len end within, c.text_len.ensures.value) in
+    let written = c.write_text.ensures.after ∙ just_written (text c.in-Some.token) (between c.put.len end c.put.out) wide in
+    let more = put_more text v c.args.from c.args.to c.put.at c.put.len c.in-Some.token _ _ low c.put-test.true c.requires.held.1 c.in-Some.ensures.value c.put.invariant.0 c.text_len.result c.write_text.new.out c.if-is_eof.ensures.value c.text_len.ensures.value written in
     (more, omega (arith, c.put.invariant.1))
 
 pub returns : goal.returns

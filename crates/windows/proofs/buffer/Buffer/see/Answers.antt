@@ -5,8 +5,8 @@ use Rattle.windows.proofs.buffer.Buffer.see.Goals as goal
 
 pub returns : goal.returns
 returns g c =
-    let pulled = c.pull-to.ensures in
-    let now = view c.pull-to.new.self.window in
+    let pulled = c.pull_to.ensures in
+    let now = view c.pull_to.new.self.window in
     record {
       value = λ list h. c.seen.ensures.value ∙ sees list _ now _ c.args.index (pulled.after list h) pulled.start pulled.capacity (pulled.pulled list h);
       held = subst (λ r. IfSome r (λ i. i < end now)) (sym c.seen.ensures.value) (seen_held now c.args.index);

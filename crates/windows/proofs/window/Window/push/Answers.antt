@@ -10,8 +10,8 @@ returns-then-self-ge-PLACES c =
     let self = c.args.self.now in
     record { after = push_full self.places self.capacity self.start self.end self.ordered c.args.token (omega arith) }
 
-pub returns-then-self-ge-MOST-TOKENS : goal.returns-then-self-ge-MOST-TOKENS
-returns-then-self-ge-MOST-TOKENS c =
+pub returns-then-self-ge-MOST_TOKENS : goal.returns-then-self-ge-MOST_TOKENS
+returns-then-self-ge-MOST_TOKENS c =
     let self = c.args.self.now in
     record { after = push_late self.places self.capacity self.start self.end self.ordered c.args.token (omega arith) }
 
@@ -24,5 +24,5 @@ returns c =
     record {
       after =
           push_one self.places self.capacity self.start self.end self.ordered c.args.token c.args.token _ self.whole (omega arith) (omega arith)
-          (c.set-token-index.ensures.after ∙ (λ i. with_index (number i) (lent i)));
+          (c.set_token_index.ensures.after ∙ (λ i. with_index (number i) (lent i)));
     }
