@@ -16,6 +16,7 @@ pub enum Encoding {
 }
 
 // A text of each kind, of which one counts: an enum of them could not be proved yet.
+#[derive(Clone, Copy)]
 pub struct AnyText<'a> {
     encoding: Encoding,
     utf8: Utf8Text<'a>,
@@ -23,8 +24,6 @@ pub struct AnyText<'a> {
     halves: CodePoints16<'a>,
     words: CodePoints32<'a>,
 }
-
-impl<'a> Copy for AnyText<'a> {}
 
 // Whether the units of an input are a text.
 pub(crate) fn check_units(units: &Units) -> Result<(), Refusal> {
