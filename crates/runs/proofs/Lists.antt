@@ -1,6 +1,6 @@
 -- What each call answers of a token comes from the source's list, and no call alters the list. Assumes nothing.
-use Rattle.std.proofs.Common.{◌≡◌, ℕ, zero, suc, ◌+◌, ◌-◌, ◌<◌, ◌≤◌, Bool, true, false, cond, not, ◌&&◌, ltb, leb, List, length, get_or, ℤ, pos, negsuc, Some, None, Option, sym, refl, ap, ◌∙◌, subst, arith}
-use Rattle.std.proofs.lemmas.Bool.{leb-false, ltb-false}
+use Rattle.std.proofs.Common.{◌≡◌, ℕ, zero, suc, ◌+◌, ◌-◌, ◌<◌, Bool, true, false, cond, not, ◌&&◌, ltb, leb, List, length, get_or, ℤ, pos, negsuc, Some, None, sym, refl, ap, ◌∙◌, arith}
+use Rattle.std.proofs.lemmas.Bool.{leb-false}
 use Rattle.refusals.specs.Answers.{Answer, gives, refuses, unless, if_given}
 use Rattle.characters.specs.Signed.{upward}
 use Rattle.tokens.specs.declared.token.Token.{Token}
@@ -9,12 +9,12 @@ use Rattle.windows.specs.Lists.{stamps, blank}
 use Rattle.windows.specs.Windows.{View}
 use Rattle.windows.proofs.Stamps.{slice_index_or_stamps}
 use Rattle.token_streams.specs.Unbuffered.{Unbuffered, token_at, reach, clamped}
-use Rattle.token_streams.specs.Calls.{open_answer, opened_with, looked, ahead, behind, get, consume, la, seek, index_of, size_of, mark_of, release_of, text}
+use Rattle.token_streams.specs.Calls.{open_answer, opened_with, looked, get, consume, la, seek, index_of, size_of, mark_of, release_of, text}
 use Rattle.token_streams.specs.Shown.{Together}
 use Rattle.token_streams.proofs.Symbols.{feed_lt, feed_consume, feed_seek}
 use Rattle.runs.specs.declared.call.Call.{Call}
 use Rattle.runs.specs.declared.call.Call.TheVariants.{Open, Consume, La, Lt, Seek, Index, Size, Mark, Release, Get, Text}
-use Rattle.runs.specs.Replies.{Replied, token, as_done, as_number, as_token, as_got, as_count}
+use Rattle.runs.specs.Replies.{token, as_done, as_number, as_token, as_got, as_count}
 use Rattle.runs.specs.Runs.{next_mark, replied, after}
 use Rattle.runs.specs.Laws.{OfList}
 

@@ -1,10 +1,9 @@
 -- A list of calls, one after the other. Assumes nothing.
-use Rattle.std.proofs.Common.{◌≡◌, ℕ, suc, ◌+◌, ◌-◌, ◌<◌, ◌≤◌, true, false, cond, ltb, List, [], ◌∷◌, ◌++◌, map, length, get_or, drop, set, sym, refl, ap, ◌∙◌, subst, arith}
+use Rattle.std.proofs.Common.{◌≡◌, ℕ, suc, ◌+◌, ◌<◌, ◌≤◌, ltb, List, [], ◌∷◌, ◌++◌, map, length, get_or, drop, set, sym, refl, ap, ◌∙◌, subst, arith}
 use Rattle.std.specs.List.{AllByRecursion as All}
-use Rattle.std.proofs.lemmas.List.{append_assoc, append-nil, length_push, length-append, length-map, drop_more, drop_all, set_at, map-set}
+use Rattle.std.proofs.lemmas.List.{append_assoc, append-nil, length_push, length-map, drop_more, drop_all, set_at, map-set}
 use Rattle.std.proofs.ByRecursion.{All-push}
 use Rattle.std.proofs.lemmas.Bool.{le-ltb, lt-ltb, cond-true, cond-false}
-use Rattle.refusals.specs.Answers.{Answer, gives, refuses}
 use Rattle.refusals.specs.Outputs.{overwritten}
 use Rattle.tokens.specs.declared.token.Token.{Token}
 use Rattle.streams.specs.Streams.{Status}
@@ -14,7 +13,7 @@ use Rattle.token_streams.specs.Shown.{Together}
 use Rattle.runs.specs.declared.call.Call.{Call}
 use Rattle.runs.specs.declared.call.Reply.{Reply}
 use Rattle.runs.specs.Replies.{Replied, done, reply_of}
-use Rattle.runs.specs.Runs.{replied, after, left_by, replies, after_all, left_by_all, run_answer, calls_made}
+use Rattle.runs.specs.Runs.{replied, after, left_by, replies, after_all, left_by_all, calls_made}
 use Rattle.runs.specs.Laws.{OfList, ShowsTheList}
 use Rattle.runs.proofs.Lists.{feed_after}
 

@@ -1,12 +1,12 @@
 -- The pile has as many marks as the stream has out. Assumes nothing.
-use Rattle.std.proofs.Common.{◌≡◌, ℕ, zero, suc, ◌-◌, ◌<◌, ◌≤◌, Bool, true, false, cond, not, leb, List, [], ◌∷◌, length, ℤ, negsuc, sym, refl, ap, ◌∙◌, arith}
+use Rattle.std.proofs.Common.{◌≡◌, ℕ, suc, ◌-◌, ◌<◌, Bool, true, false, cond, not, leb, List, [], ◌∷◌, length, ℤ, negsuc, sym, refl, ap, ◌∙◌, arith}
 use Rattle.std.proofs.lemmas.Bool.{leb-false, lt-leb, eq-eqb, false≢true}
 use Rattle.refusals.specs.Answers.{Answer, gives, refuses, unless, if_given}
 use Rattle.tokens.specs.Tokens.{same}
 use Rattle.streams.specs.declared.mark.Numbering.{Numbering}
 use Rattle.streams.specs.declared.mark.Numbering.TheVariants.{Fixed, Falling}
 use Rattle.streams.specs.Streams.{Status}
-use Rattle.streams.specs.Marks.{falls, numbered, numbers, piling, latest, earlier, releasing, after_releasing}
+use Rattle.streams.specs.Marks.{falls, numbers, piling, latest, earlier, releasing}
 use Rattle.streams.specs.Calls.{mark_answer, marks_after_mark, release_answer, marks_after_release}
 use Rattle.streams.proofs.Numbers.{length_numbers}
 

@@ -1,5 +1,5 @@
 -- A walk through a window. Assumes nothing.
-use Rattle.std.proofs.Common.{◌≡◌, ℕ, suc, ◌+◌, ◌-◌, ◌<◌, ◌≤◌, min, max, true, false, cond, List, [], length, get_or, ℤ, pos, Some, Option, sym, refl, ap, ◌∙◌, subst, ⊎_elim, arith}
+use Rattle.std.proofs.Common.{◌≡◌, ℕ, suc, ◌+◌, ◌-◌, ◌<◌, ◌≤◌, min, true, List, [], length, get_or, ℤ, pos, Some, sym, refl, ap, ◌∙◌, ⊎_elim, arith}
 use Rattle.std.proofs.lemmas.Bool.{cases_eq}
 use Rattle.refusals.specs.Answers.{gives, refuses, if_given}
 use Rattle.tokens.specs.declared.token.Token.{Token}
@@ -7,7 +7,7 @@ use Rattle.streams.specs.Streams.{Status}
 use Rattle.windows.specs.Lists.{stamps, blank}
 use Rattle.windows.specs.Windows.{View, admission}
 use Rattle.windows.specs.Reads.{follow}
-use Rattle.token_streams.specs.Unbuffered.{Feed, Unbuffered, unopened, token_at, eof_index, reach, clamped, needed, moved}
+use Rattle.token_streams.specs.Unbuffered.{Feed, Unbuffered, unopened, token_at, eof_index, reach, clamped}
 use Rattle.token_streams.specs.Calls.{lt, after_consume, after_open, opened_with}
 use Rattle.token_streams.specs.Shown.{Together}
 use Rattle.runs.specs.Walks.{come_to}

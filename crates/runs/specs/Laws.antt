@@ -1,10 +1,10 @@
 -- What holds of every list of calls, whatever was dropped on the way. Assumes nothing.
-use Rattle.std.specs.Prelude.{◌≡◌, ℕ, ◌+◌, ◌-◌, ◌<◌, ◌≤◌, true, List, length, drop, Some, None, Option, slice_index_or}
+use Rattle.std.specs.Prelude.{◌≡◌, ℕ, ◌<◌, ◌≤◌, List, length, drop, Some, None, slice_index_or}
 use Rattle.std.specs.List.{AllByRecursion as All}
 use Rattle.characters.specs.Signed.{upward}
 use Rattle.tokens.specs.declared.token.Token.{Token}
 use Rattle.windows.specs.Lists.{stamps, blank}
-use Rattle.token_streams.specs.Unbuffered.{Feed, Unbuffered, tokens, reach}
+use Rattle.token_streams.specs.Unbuffered.{Unbuffered, tokens, reach}
 use Rattle.runs.specs.declared.call.Call.{Call}
 use Rattle.runs.specs.Replies.{Replied, done, number, count, token, refused}
 use Rattle.runs.specs.Runs.{replies, after_all}

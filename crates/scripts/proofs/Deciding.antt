@@ -1,5 +1,5 @@
 -- Tests, and what names stand for. Assumes nothing.
-use Rattle.std.proofs.Common.{◌≡◌, ℕ, Bool, true, false, List, ℤ, Some, codes, Decides, sym, refl, ◌∙◌}
+use Rattle.std.proofs.Common.{◌≡◌, ℕ, Bool, true, false, List, ℤ, Some, codes, sym, refl, ◌∙◌}
 use Rattle.std.specs.Str.{bytes_eq}
 use Rattle.scripts.specs.Calls.{token_of, call_of}
 use Rattle.scripts.specs.Sayings.{Saying, if_read, count_ahead, new_token, ask, name_numbers}

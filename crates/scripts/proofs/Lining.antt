@@ -1,8 +1,6 @@
 -- The first line of a script, and what the lines say. Assumes nothing.
-use Rattle.std.proofs.Common.{◌≡◌, ℕ, suc, ◌+◌, ◌<◌, Bool, true, false, cond, not, eqb, List, [], ◌∷◌, ◌++◌, map, length, take, drop, filter, sym, refl, ap, ◌∙◌, append_assoc, append-nil, add-one, one-add, arith}
-use Rattle.std.specs.List.{prefix_len}
-use Rattle.std.proofs.lemmas.List.{map-append}
-use Rattle.scripts.specs.Words.{in_line, first_line, later_lines, lengthened, words, passed_over}
+use Rattle.std.proofs.Common.{◌≡◌, ℕ, suc, ◌+◌, ◌<◌, Bool, true, false, not, eqb, List, [], ◌∷◌, ◌++◌, map, length, filter, sym, refl, ap, ◌∙◌, append_assoc, append-nil, one-add, arith}
+use Rattle.scripts.specs.Words.{first_line, later_lines, lengthened, words, passed_over}
 use Rattle.scripts.specs.Sayings.{Saying, said}
 use Rattle.scripts.specs.Scripts.{lines, sayings}
 

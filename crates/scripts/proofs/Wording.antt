@@ -1,5 +1,5 @@
 -- The first word of a line. Assumes nothing.
-use Rattle.std.proofs.Common.{◌≡◌, ℕ, zero, suc, ◌+◌, ◌-◌, ◌<◌, ◌≤◌, Bool, true, false, cond, not, List, [], ◌∷◌, ◌++◌, length, get_or, take, drop, filter, sym, refl, ap, ◌∙◌, add-one, one-add, arith, length-drop}
+use Rattle.std.proofs.Common.{◌≡◌, ℕ, suc, ◌-◌, ◌<◌, Bool, true, false, cond, List, [], ◌∷◌, length, get_or, take, drop, filter, sym, refl, ap, ◌∙◌, one-add, arith}
 use lib.Seq.{take-length}
 use Rattle.std.specs.List.{prefix_len, flat_map}
 use Rattle.scripts.specs.Words.{space, dark, words, spelled, lengthened}

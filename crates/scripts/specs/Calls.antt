@@ -1,5 +1,5 @@
 -- The calls, tokens and streams of a line, by its name and numbers. Assumes nothing.
-use Rattle.std.specs.Prelude.{ℕ, zero, suc, Bool, cond, List, [], ◌∷◌, ℤ, pos, negsuc, Some, None, codes, Option, nat_le}
+use Rattle.std.specs.Prelude.{ℕ, zero, suc, cond, List, [], ◌∷◌, ℤ, pos, negsuc, Some, None, codes, Option, nat_le}
 use Rattle.std.specs.Option.{option_map}
 use Rattle.std.specs.Str.{bytes_eq}
 use Rattle.tokens.specs.declared.token.Token.{Token}

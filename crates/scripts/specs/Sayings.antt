@@ -3,7 +3,6 @@ use Rattle.std.specs.Prelude.{ℕ, List, [], ◌∷◌, ℤ, Some, None, vec_ite
 use Rattle.tokens.specs.declared.token.Token.{Token}
 use Rattle.scripts.specs.declared.line.Kind.{Kind}
 use Rattle.scripts.specs.declared.line.Call.{Call}
-use Rattle.scripts.specs.declared.line.Units.{Units}
 use Rattle.scripts.specs.declared.line.Units.TheVariants.{Utf8, Bytes, Halves, Words}
 use Rattle.scripts.specs.declared.line.Line.{Line}
 use Rattle.scripts.specs.declared.line.Line.TheVariants.{Bad, Input, NewToken, ListSource, SheetSource, NewStream, CountAhead, Ask}

@@ -1,5 +1,5 @@
 -- The lines of a script, and the words of a line. Assumes nothing.
-use Rattle.std.specs.Prelude.{ℕ, ◌+◌, Bool, true, false, cond, not, ◌||◌, List, [], ◌∷◌, length, take, drop, ◌==◌}
+use Rattle.std.specs.Prelude.{ℕ, ◌+◌, Bool, true, false, cond, not, ◌||◌, List, [], ◌∷◌, take, drop, ◌==◌}
 use Rattle.std.specs.List.{prefix_len}
 
 abbrev pub space : ℕ → Bool

@@ -1,7 +1,7 @@
 -- The numbers of marks, one more and one less. Assumes nothing.
-use Rattle.std.proofs.Common.{◌≡◌, ℕ, zero, suc, ◌+◌, ◌-◌, ◌<◌, ◌≤◌, Bool, true, false, not, leb, List, [], ◌∷◌, length, ℤ, sym, refl, ap, ◌∙◌, add-one, arith}
+use Rattle.std.proofs.Common.{◌≡◌, ℕ, zero, suc, ◌+◌, ◌-◌, ◌<◌, ◌≤◌, true, false, not, leb, List, ◌∷◌, length, ℤ, sym, refl, ap, ◌∙◌, add-one, arith}
 use Rattle.std.proofs.lemmas.Bool.{le-leb, lt-leb}
-use Rattle.refusals.specs.Answers.{Answer, gives, refuses, unless, if_given}
+use Rattle.refusals.specs.Answers.{gives, refuses, unless, if_given}
 use Rattle.tokens.specs.Tokens.{same}
 use Rattle.streams.specs.declared.mark.Numbering.{Numbering}
 use Rattle.streams.specs.Marks.{numbered, numbers, marking, after_marking, latest, earlier, releasing, after_releasing}

@@ -1,8 +1,8 @@
 -- What each call of a stream of symbols answers, and what it leaves. Assumes nothing.
-use Rattle.std.specs.Prelude.{ℕ, zero, suc, ◌+◌, Bool, true, false, cond, not, ◌&&◌, List, [], ◌∷◌, length, ℤ, pos, negsuc, Some, None, Option, ◌==◌, nat_lt, slice_index_or}
+use Rattle.std.specs.Prelude.{ℕ, zero, suc, ◌+◌, cond, not, ◌&&◌, List, ◌∷◌, ℤ, pos, negsuc, Some, None, Option, ◌==◌, nat_lt, slice_index_or}
 use Rattle.refusals.specs.Answers.{Answer, gives, refuses, unless, if_given}
-use Rattle.streams.specs.Streams.{Symbol, Status, Stream, is_eof, last_of, ahead, behind, place, beyond, moved, with_marks}
-use Rattle.streams.specs.Marks.{marking, after_marking, releasing, after_releasing}
+use Rattle.streams.specs.Streams.{Symbol, Status, Stream, is_eof, last_of, ahead, behind, place, beyond, moved}
+use Rattle.streams.specs.Marks.{marking, releasing, after_releasing}
 
 -- 9 not open
 abbrev pub when_open : {A : Type 0} → Status → Answer A → Answer A

@@ -1,16 +1,15 @@
 -- Tokens and texts by their indexes. Assumes nothing.
-use Rattle.std.proofs.Common.{◌≡◌, ℕ, ◌+◌, ◌-◌, ◌<◌, ◌≤◌, Bool, true, false, cond, ltb, leb, List, length, get_or, take, drop, ℤ, pos, negsuc, sym, refl, ap, ◌∙◌, ⊎_elim, arith}
+use Rattle.std.proofs.Common.{◌≡◌, ℕ, ◌+◌, ◌-◌, ◌<◌, ◌≤◌, Bool, true, false, ltb, leb, List, get_or, take, drop, ℤ, pos, negsuc, sym, refl, ap, ◌∙◌, ⊎_elim, arith}
 use lib.Signed.{lt_z}
 use Rattle.std.specs.List.{between}
 use Rattle.std.proofs.lemmas.List.{take-take, drop-take, drop-drop}
-use Rattle.std.proofs.lemmas.Bool.{lt-ltb, le-ltb, lt-leb, le-leb, ltb-false, cond-true, cond-false, cases_lt}
+use Rattle.std.proofs.lemmas.Bool.{lt-ltb, le-leb, ltb-false, cond-true, cases_lt}
 use Rattle.refusals.specs.Answers.{Answer, gives, refuses, unless, if_given}
 use Rattle.refusals.specs.Outputs.{written, overwritten}
 use Rattle.characters.specs.Signed.{upward, past, backward}
 use Rattle.characters.proofs.Intervals.{ordered}
 use Rattle.tokens.specs.declared.token.Token.{Token}
 use Rattle.streams.specs.Streams.{Status}
-use Rattle.streams.specs.Calls.{when_open}
 use Rattle.windows.specs.Lists.{blank}
 use Rattle.windows.specs.Windows.{View, end}
 use Rattle.windows.specs.Reads as window

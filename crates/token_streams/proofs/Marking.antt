@@ -1,13 +1,13 @@
 -- Marks that are made and come back. Assumes nothing.
-use Rattle.std.proofs.Common.{◌≡◌, ℕ, ◌+◌, ◌-◌, ◌<◌, ◌≤◌, Bool, true, false, cond, not, leb, List, [], ◌∷◌, length, ℤ, negsuc, sym, refl, ap, ◌∙◌, subst, arith}
-use Rattle.std.proofs.lemmas.Bool.{cond-true, cond-false, false≢true}
-use Rattle.refusals.specs.Answers.{Answer, gives, refuses, unless, if_given}
+use Rattle.std.proofs.Common.{◌≡◌, ℕ, ◌-◌, ◌<◌, Bool, true, false, leb, List, [], ◌∷◌, length, ℤ, negsuc, sym, refl, ap, ◌∙◌, subst, arith}
+use Rattle.std.proofs.lemmas.Bool.{cond-true, false≢true}
+use Rattle.refusals.specs.Answers.{gives, unless, if_given}
 use Rattle.tokens.specs.declared.token.Token.{Token}
 use Rattle.streams.specs.declared.mark.Numbering.{Numbering}
 use Rattle.streams.specs.declared.mark.Numbering.TheVariants.{Fixed, Falling}
-use Rattle.streams.specs.Streams.{Status, sliding, resting}
-use Rattle.streams.specs.Marks.{falls, numbered, numbers, marking, after_marking, releasing, after_releasing}
-use Rattle.streams.specs.Calls.{when_open, mark_answer, marks_after_mark, release_answer, marks_after_release, status_with}
+use Rattle.streams.specs.Streams.{Status}
+use Rattle.streams.specs.Marks.{falls, numbered, numbers, marking, after_marking, after_releasing}
+use Rattle.streams.specs.Calls.{marks_after_mark, marks_after_release, status_with}
 use Rattle.streams.proofs.Numbers.{length_numbers}
 use Rattle.windows.specs.Windows.{View}
 use Rattle.token_streams.specs.Unbuffered.{Unbuffered, token_at, with_status}

@@ -1,6 +1,6 @@
 -- What the moves of a stream answer and leave, from what they find. Assumes nothing.
-use Rattle.std.proofs.Common.{◌≡◌, ℕ, ◌+◌, ◌-◌, ◌<◌, ◌≤◌, Bool, true, false, List, [], length, Some, None, Option, sym, refl, ap, ◌∙◌, subst, arith}
-use Rattle.refusals.specs.Answers.{Answer, gives, refuses}
+use Rattle.std.proofs.Common.{◌≡◌, ℕ, ◌+◌, ◌<◌, ◌≤◌, Bool, true, false, List, length, Some, None, sym, refl, ap, ◌∙◌, subst, arith}
+use Rattle.refusals.specs.Answers.{gives, refuses}
 use Rattle.tokens.specs.declared.token.Token.{Token}
 use Rattle.streams.specs.Streams.{Status}
 use Rattle.windows.specs.Windows.{View, end}
@@ -9,7 +9,7 @@ use Rattle.token_streams.specs.Unbuffered.{Unbuffered, reach, clamped, needed, m
 use Rattle.token_streams.specs.Calls.{consume, after_consume, sought, after_sought}
 use Rattle.token_streams.specs.Settled.{settled_view, settled_before}
 use Rattle.token_streams.specs.Shown.{Together}
-use Rattle.token_streams.proofs.Together.{together_seen, seen_some, seen_none, ahead_on, ahead_at, ahead_nowhere, Frees, rested, together_rests}
+use Rattle.token_streams.proofs.Together.{together_seen, seen_some, seen_none, ahead_on, ahead_at, ahead_nowhere, Frees, together_rests}
 use Rattle.token_streams.proofs.Answered.{consume_full, consume_last, consume_on, sought_full, sought_on}
 
 -- the same parts under other names

@@ -1,9 +1,8 @@
 -- What a token stream answers is what its symbols answer. Assumes nothing.
-use Rattle.std.proofs.Common.{◌≡◌, ℕ, zero, suc, ◌+◌, ◌-◌, ◌<◌, ◌≤◌, min, Bool, true, false, cond, not, ◌&&◌, eqb, ltb, leb, List, [], ◌∷◌, map, reverse, length, get_or, take, drop, ℤ, pos, negsuc, Some, None, filter, Option, sym, refl, ap, ◌∙◌, subst, ⊎_elim, arith}
-use Rattle.std.specs.List.{slice_get}
-use Rattle.std.proofs.lemmas.List.{length-map, length-take-le, length-reverse, get_or-drop, get_or-take, get_or-map, get_or_past, get_or-reverse, get_or_default}
+use Rattle.std.proofs.Common.{◌≡◌, ℕ, zero, suc, ◌+◌, ◌-◌, ◌<◌, ◌≤◌, min, Bool, true, false, cond, not, ◌&&◌, eqb, ltb, leb, List, [], ◌∷◌, map, reverse, length, get_or, take, drop, ℤ, pos, negsuc, Some, None, filter, Option, sym, refl, ap, ◌∙◌, ⊎_elim, arith}
+use Rattle.std.proofs.lemmas.List.{length-take-le, length-reverse, get_or-drop, get_or-take, get_or-map, get_or_past, get_or-reverse}
 use Rattle.std.proofs.lemmas.Option.{slice_get-get_or, slice_get_past}
-use Rattle.std.proofs.lemmas.Bool.{le-leb, lt-leb, lt-ltb, le-ltb, eq-eqb, ne_eqb, eqb-false, and_parts, not-true, cond-true, cond-false, cases_lt}
+use Rattle.std.proofs.lemmas.Bool.{lt-ltb, le-ltb, eq-eqb, ne_eqb, eqb-false, and_parts, not-true, cond-true, cond-false, cases_lt}
 use Rattle.refusals.specs.Answers.{Answer, gives, refuses, unless, if_given}
 use Rattle.tokens.specs.declared.token.Token.{Token}
 use Rattle.tokens.specs.Tokens as tokens
@@ -14,7 +13,7 @@ use Rattle.streams.specs.Calls as symbols
 use Rattle.streams.specs.Calls.{when_open}
 use Rattle.characters.proofs.Kept.{keeps, leaves}
 use Rattle.windows.specs.Lists.{stamps, stamped, blank}
-use Rattle.windows.proofs.Stamps.{length_stamps, slice_index_or_stamps, eof_stamped}
+use Rattle.windows.proofs.Stamps.{length_stamps, eof_stamped}
 use Rattle.token_streams.specs.Unbuffered as unbuffered
 use Rattle.token_streams.specs.Unbuffered.{Unbuffered, token_at, eof_index, clamped, needed, moved, with_status}
 use Rattle.token_streams.specs.Calls as calls

@@ -1,18 +1,17 @@
 -- How the parts of a stream hold together from call to call. Assumes nothing.
-use Rattle.std.proofs.Common.{◌≡◌, ℕ, zero, suc, ◌+◌, ◌-◌, ◌<◌, ◌≤◌, min, max, Bool, true, false, cond, eqb, ltb, leb, ◌⊎◌, List, [], ◌∷◌, length, ℤ, Some, None, Option, sym, refl, ap, ◌∙◌, subst, inl, inr, ⊎_elim, arith}
-use Rattle.std.proofs.lemmas.Bool.{le-leb, lt-leb, lt-ltb, le-ltb, cond-true, cond-false, cases_lt, ne_eqb, false≢true}
+use Rattle.std.proofs.Common.{◌≡◌, ℕ, zero, suc, ◌+◌, ◌-◌, ◌<◌, ◌≤◌, Bool, true, false, eqb, ltb, List, [], ◌∷◌, length, ℤ, Some, None, sym, refl, ap, ◌∙◌, subst, ⊎_elim, arith}
+use Rattle.std.proofs.lemmas.Bool.{lt-ltb, le-ltb, cond-true, cond-false, cases_lt, ne_eqb, false≢true}
 use Rattle.tokens.specs.declared.token.Token.{Token}
 use Rattle.tokens.specs.Tokens.{Lawful}
 use Rattle.streams.specs.Streams.{Status, sliding, resting}
 use Rattle.streams.specs.declared.mark.Numbering.{Numbering}
 use Rattle.streams.specs.Marks.{numbers}
-use Rattle.windows.specs.Lists.{stamps}
 use Rattle.windows.specs.Windows as window
 use Rattle.windows.specs.Windows.{View, end, token_of, without}
 use Rattle.windows.specs.Held.{Holds, pulled_to, seen_at}
 use Rattle.windows.proofs.Stamps.{some_token}
 use Rattle.windows.proofs.Held.{token_below, token_held, start_without, end_without, holds_without}
-use Rattle.token_streams.specs.Unbuffered.{Feed, Unbuffered, token_at, reach, clamped, needed, moved, with_status, unopened}
+use Rattle.token_streams.specs.Unbuffered.{Feed, Unbuffered, token_at, reach, clamped, needed, unopened}
 use Rattle.token_streams.specs.Settled.{settled_view, or_else, settled_before}
 use Rattle.token_streams.specs.Shown.{Together}
 

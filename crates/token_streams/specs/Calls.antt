@@ -1,11 +1,10 @@
 -- What each call of an unbuffered token stream answers, and what it leaves. Assumes nothing.
-use Rattle.std.specs.Prelude.{ℕ, zero, suc, ◌+◌, ◌-◌, Bool, true, cond, not, ◌&&◌, List, ℤ, pos, negsuc, Some, None, Option, ◌==◌, int_lt, nat_le, nat_lt}
+use Rattle.std.specs.Prelude.{ℕ, zero, suc, ◌+◌, ◌-◌, true, cond, ◌&&◌, List, ℤ, pos, negsuc, Some, None, Option, ◌==◌, int_lt, nat_le, nat_lt}
 use Rattle.std.specs.List.{between}
 use Rattle.refusals.specs.Answers.{Answer, gives, refuses, unless, if_given}
 use Rattle.refusals.specs.Outputs.{written, overwritten}
 use Rattle.characters.specs.Signed.{upward, past, backward}
 use Rattle.tokens.specs.declared.token.Token.{Token}
-use Rattle.streams.specs.Streams.{Status}
 use Rattle.streams.specs.Calls.{when_open, mark_answer, marks_after_mark, release_answer, marks_after_release, status_with}
 use Rattle.windows.specs.Windows.{admission}
 use Rattle.windows.specs.Reads.{follow, texts_of}

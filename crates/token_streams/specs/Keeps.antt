@@ -1,16 +1,15 @@
 -- The symbols of a token stream keep to the rules of a stream of symbols. Assumes nothing.
-use Rattle.std.specs.Prelude.{◌≡◌, ℕ, zero, suc, ◌+◌, ◌-◌, ◌<◌, ◌≤◌, Bool, true, false, not, ◌&&◌, List, [], ◌∷◌, map, length, get_or, drop, ℤ, pos, negsuc, slice_index_or, refl}
+use Rattle.std.specs.Prelude.{◌≡◌, ℕ, suc, ◌+◌, ◌<◌, true, not, List, [], ◌∷◌, map, length, get_or, drop, ℤ, pos, negsuc, slice_index_or, refl}
 use Rattle.std.proofs.Common.{sym, ap, subst, ◌∙◌, add-zero, arith}
 use Rattle.std.proofs.lemmas.List.{length-map, get_or-drop, get_or-map}
 use Rattle.std.proofs.lemmas.Bool.{and_parts, not-true, lt-leb}
 use Rattle.tokens.specs.declared.token.Token.{Token}
 use Rattle.tokens.specs.Tokens.{same, is_eof, ends}
-use Rattle.streams.specs.Streams as streams
-use Rattle.streams.specs.Streams.{Symbol, Status, Stream, Rising, Lawful, minus_one, last_of, ahead, settled, sliding, resting}
+use Rattle.streams.specs.Streams.{Symbol, Status, Stream, Rising, Lawful, minus_one, last_of, ahead, sliding, resting}
 use Rattle.windows.specs.Lists.{stamps, blank}
 use Rattle.windows.specs.Windows.{View}
 use Rattle.windows.proofs.Stamps.{length_stamps, slice_index_or_stamps}
-use Rattle.token_streams.specs.Unbuffered.{Unbuffered, tokens, token_at, reach}
+use Rattle.token_streams.specs.Unbuffered.{Unbuffered, tokens, token_at}
 use Rattle.token_streams.specs.Shown.{Together}
 use Rattle.token_streams.specs.Symbols.{symbol, stream_of, SymbolsOf}
 

@@ -1,5 +1,5 @@
 -- The tokens of a stream as symbols. Assumes nothing.
-use Rattle.std.specs.Prelude.{◌≡◌, List, map, refl}
+use Rattle.std.specs.Prelude.{◌≡◌, map, refl}
 use Rattle.std.proofs.Common.{◌∙◌}
 use Rattle.characters.specs.Signed.{upward}
 use Rattle.tokens.specs.declared.token.Token.{Token}

@@ -1,5 +1,5 @@
 -- What an unbuffered token stream means: all of its source's list, and how far the stream has come in it. Assumes nothing.
-use Rattle.std.specs.Prelude.{ℕ, suc, ◌+◌, ◌-◌, min, max, false, List, [], length, ℤ, pos, negsuc, slice_index_or}
+use Rattle.std.specs.Prelude.{ℕ, suc, ◌+◌, ◌-◌, min, max, false, List, [], length, slice_index_or}
 use Rattle.tokens.specs.declared.token.Token.{Token}
 use Rattle.streams.specs.Streams.{Status, sliding, resting}
 use Rattle.windows.specs.Lists.{stamps, blank}

@@ -1,8 +1,8 @@
 -- Pulling, one token after the other, until the token of an index is held. Assumes nothing.
-use Rattle.std.proofs.Common.{◌≡◌, ℕ, suc, ◌+◌, ◌-◌, ◌<◌, ◌≤◌, min, max, true, false, cond, ltb, leb, List, length, IfSome, Some, None, Option, sym, refl, ap, ◌∙◌, subst, ⊎_elim, arith}
+use Rattle.std.proofs.Common.{◌≡◌, ℕ, suc, ◌+◌, ◌-◌, ◌<◌, ◌≤◌, min, true, false, cond, ltb, leb, List, length, IfSome, Some, None, sym, refl, ap, ◌∙◌, subst, ⊎_elim, arith}
 use Rattle.std.proofs.lemmas.Bool.{and_parts, and_cases, not-true, not-false, leb-true, leb-false, ltb-true, ltb-false, lt-leb, or_from, lt-ltb, le-ltb, cond-true, cond-false, cond_both, cases_lt, cases_Bool, false≢true}
 use Rattle.tokens.specs.declared.token.Token.{Token}
-use Rattle.windows.specs.Windows.{View, end, reach, full, pushed}
+use Rattle.windows.specs.Windows.{View, end, reach, full}
 use Rattle.windows.specs.Held.{Holds, Pulled, eof_is, at_end, wants, pulled_to, within_reach, seen_now, seen_at}
 use Rattle.windows.proofs.Held.{token_past, at_end_all, at_end_more, end_grown, holds_more}
 

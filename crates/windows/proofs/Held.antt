@@ -1,16 +1,15 @@
 -- What follows from what is held. Assumes nothing.
-use Rattle.std.proofs.Common.{◌≡◌, ℕ, zero, suc, ◌+◌, ◌-◌, ◌<◌, ◌≤◌, min, max, Bool, true, false, cond, not, ◌&&◌, eqb, ltb, leb, ◌⊎◌, List, [], ◌∷◌, ◌++◌, length, get_or, take, drop, Some, None, Option, sym, refl, ap, ◌∙◌, subst, inl, inr, ⊎_elim, add-one, arith}
-use Rattle.std.specs.List.{slice_get, between}
-use Rattle.std.proofs.lemmas.List.{length-append, length_push, length-drop, drop_more, drop-drop, drop-take}
-use Rattle.std.proofs.lemmas.List.Edits.{between_more, length-between, get_or-between}
+use Rattle.std.proofs.Common.{◌≡◌, ℕ, suc, ◌+◌, ◌-◌, ◌<◌, ◌≤◌, min, true, false, eqb, ltb, ◌⊎◌, List, [], ◌∷◌, ◌++◌, length, get_or, take, drop, Some, None, sym, ap, ◌∙◌, inl, inr, ⊎_elim, add-one, arith}
+use Rattle.std.specs.List.{between}
+use Rattle.std.proofs.lemmas.List.{length_push, length-drop, drop_more, drop-drop, drop-take}
+use Rattle.std.proofs.lemmas.List.Edits.{between_more, get_or-between}
 use Rattle.std.proofs.lemmas.Option.{slice_get-get_or, slice_get_past}
-use Rattle.std.proofs.lemmas.Bool.{lt-ltb, le-ltb, eqb-true, eqb-false, cond-true, cond-false, cases_lt, true≢false, false≢true}
+use Rattle.std.proofs.lemmas.Bool.{lt-ltb, le-ltb, eqb-true, eqb-false, cond-true, cond-false, cases_lt, false≢true}
 use Rattle.tokens.specs.declared.token.Token.{Token}
-use Rattle.tokens.specs.Tokens.{is_eof, unstamped, ends}
 use Rattle.tokens.specs.Sources.{Pulls}
 use Rattle.windows.specs.Lists.{stamped, stamps, blank}
-use Rattle.windows.specs.Windows.{View, end, reach, full, pushed, token_of, without}
-use Rattle.windows.specs.Held.{Holds, Pulled, eof_is, at_end}
+use Rattle.windows.specs.Windows.{View, end, full, pushed, token_of, without}
+use Rattle.windows.specs.Held.{Holds, eof_is, at_end}
 use Rattle.windows.proofs.Stamps.{length_stamps, eof_stamped}
 
 -- a window's token by its index

@@ -1,10 +1,7 @@
-use Rattle.std.proofs.Common.{◌≡◌, suc, ◌-◌, ◌≤◌, min, length, get_or, pos, Some, sym, refl, ap, ◌∙◌, subst, arith, w32}
+use Rattle.std.proofs.Common.{◌≡◌, suc, ◌-◌, sym, refl, ap, ◌∙◌, subst, arith, w32}
 use Rattle.std.proofs.lemmas.Int.{to_z-of_z}
-use Rattle.refusals.specs.Answers.{gives}
 use Rattle.streams.proofs.Steps.{passed_on}
-use Rattle.windows.specs.Lists.{stamps, blank}
 use Rattle.windows.specs.Windows.{admission}
-use Rattle.windows.specs.Reads.{follow}
 use Rattle.token_streams.specs.Unbuffered.{Feed, unopened}
 use Rattle.token_streams.specs.Calls.{after_open, opened_with}
 use Rattle.token_streams.proofs.Steps.{together_as}

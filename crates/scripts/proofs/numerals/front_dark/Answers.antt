@@ -1,4 +1,4 @@
-use Rattle.std.proofs.Common.{◌≡◌, ◌<◌, length, arith, length-drop, length-take, rules, ltb-false, ltb-true}
+use Rattle.std.proofs.Common.{◌≡◌, ◌<◌, length, rules}
 use Rattle.scripts.proofs.Wording.{dark_first, dark_none}
 use Rattle.scripts.proofs.numerals.front_dark.Goals as goal
 

@@ -1,4 +1,4 @@
-use Rattle.std.proofs.Common.{◌≡◌, ◌<◌, length, Some, sym, ap, ◌∙◌, w32, SFits, rules}
+use Rattle.std.proofs.Common.{◌<◌, length, Some, ap, ◌∙◌, w32, SFits, rules}
 use Rattle.std.proofs.lemmas.Int.{to_z-of_z}
 use Rattle.scripts.proofs.Digits.{minus_number}
 use Rattle.scripts.proofs.numerals.number.Goals as goal

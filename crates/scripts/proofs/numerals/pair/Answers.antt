@@ -1,4 +1,3 @@
-use Rattle.std.proofs.Common.{sym}
 use Rattle.scripts.proofs.Digits.{pair_is}
 use Rattle.scripts.proofs.numerals.pair.Goals as goal
 

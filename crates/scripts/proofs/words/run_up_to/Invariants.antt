@@ -1,6 +1,5 @@
 use Rattle.std.proofs.Common.{◌≡◌, ◌+◌, ◌-◌, ◌≤◌, not, eqb, length, drop}
 use Rattle.std.specs.List.{prefix_len}
-use Rattle.scripts.specs.Words.{space}
 use Rattle.scripts.proofs.words.run_up_to.Given as goal
 
 abbrev pub invariant-run : goal.invariant-run

@@ -1,4 +1,4 @@
-use Rattle.std.proofs.Common.{◌≡◌, sym, refl, ap, ◌∙◌, w32, SFits, rules}
+use Rattle.std.proofs.Common.{sym, refl, ap, ◌∙◌, w32, SFits, rules}
 use Rattle.std.proofs.lemmas.Int.{to_z-of_z}
 use Rattle.token_streams.specs.Calls.{open_answer, after_open, lt, after_lt, la, seek, after_seek}
 use Rattle.token_streams.proofs.Steps.{together_as}

@@ -1,4 +1,4 @@
-use Rattle.std.proofs.Common.{◌≡◌, length, sym, ap, ◌∙◌, arith}
+use Rattle.std.proofs.Common.{length, sym, ap, ◌∙◌, arith}
 use Rattle.streams.specs.Marks.{falls}
 use Rattle.streams.proofs.Numbers.{length_numbers}
 use Rattle.token_streams.specs.Shown.{status_of}

@@ -1,4 +1,4 @@
-use Rattle.std.proofs.Common.{◌≡◌, ◌-◌, ◌≤◌, sym, ap, ◌∙◌, subst, arith}
+use Rattle.std.proofs.Common.{◌-◌, ◌≤◌, ap, ◌∙◌, arith}
 use Rattle.windows.specs.Windows.{view, token_of}
 use Rattle.token_streams.proofs.Together.{token_shown}
 use Rattle.token_streams.proofs.Answered.{behind_held}

@@ -1,4 +1,4 @@
-use Rattle.std.proofs.Common.{◌≡◌, suc, ◌-◌, pos, nat_abs, sym, refl, ap, ◌∙◌, arith, w32, to_z, of_z}
+use Rattle.std.proofs.Common.{◌≡◌, suc, ◌-◌, pos, nat_abs, sym, refl, ◌∙◌, arith, w32, to_z, of_z}
 use Rattle.std.proofs.lemmas.Int.{ints}
 use Rattle.token_streams.proofs.Answered.{lt_ahead, after_ahead}
 use Rattle.token_streams.proofs.Steps.{together_as, is_open}

@@ -1,6 +1,5 @@
-use Rattle.std.proofs.Common.{sym, refl, ap, ◌∙◌, subst}
+use Rattle.std.proofs.Common.{refl, ap, ◌∙◌, subst}
 use Rattle.streams.specs.Calls.{marks_after_release, status_with}
-use Rattle.streams.specs.Marks.{numbers}
 use Rattle.token_streams.specs.Shown.{status_of}
 use Rattle.token_streams.proofs.Answered.{when_opened}
 use Rattle.token_streams.proofs.Together.{Frees, frees}

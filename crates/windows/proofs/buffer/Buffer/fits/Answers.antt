@@ -1,5 +1,5 @@
 use Rattle.std.proofs.Common.{◌+◌, ◌-◌, ◌<◌, ◌≤◌, sym, subst, arith}
-use Rattle.windows.specs.Windows.{view, end}
+use Rattle.windows.specs.Windows.{view}
 use Rattle.windows.proofs.Texts.{Tells, tells_end, tells_short, tells_more, tells_all, not_held}
 use Rattle.windows.proofs.buffer.Buffer.fits.Goals as goal
 

@@ -1,5 +1,4 @@
 use Rattle.std.proofs.Common.{sym, refl, ◌∙◌}
-use Rattle.windows.specs.Windows.{view}
 use Rattle.windows.proofs.Filling.{filling_none, wanted, pull_falls, filling_more, filling_done}
 use Rattle.windows.proofs.buffer.Buffer.pull_to.Goals as goal
 

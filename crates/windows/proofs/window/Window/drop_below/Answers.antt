@@ -1,5 +1,4 @@
-use Rattle.std.proofs.Common.{arith}
-use Rattle.windows.proofs.Ring.{drop_all_held, drop_some_held, drop_none_held}
+use Rattle.windows.proofs.Ring.{drop_all_held, drop_some_held}
 use Rattle.windows.proofs.window.Window.drop_below.Goals as goal
 
 pub returns-then-index-self : goal.returns-then-index-self

@@ -1,4 +1,4 @@
-use Rattle.std.proofs.Common.{length, negsuc, sym, refl, ap, ◌∙◌}
+use Rattle.std.proofs.Common.{length, negsuc, refl, ap, ◌∙◌}
 use Rattle.streams.specs.Streams.{with_marks}
 use Rattle.streams.specs.Calls.{marks_after_mark}
 use Rattle.token_streams.specs.Calls.{after_mark}

@@ -1,4 +1,4 @@
-use Rattle.std.proofs.Common.{sym, refl, ap, ◌∙◌}
+use Rattle.std.proofs.Common.{refl, ap, ◌∙◌}
 use Rattle.streams.specs.Streams.{with_marks}
 use Rattle.streams.specs.Calls.{marks_after_release}
 use Rattle.token_streams.specs.Calls.{after_release}
