@@ -1,6 +1,6 @@
 -- What a test keeps of a list. Assumes nothing.
 use Rattle.std.proofs.Common.{◌≡◌, Bool, true, false, cond, ◌&&◌, List, [], ◌∷◌, filter, refl, ap, ◌∙◌}
-use Rattle.std.specs.List.{AllByRecursion as All}
+use Rattle.std.specs.List.{AllByRecursion}
 
 module _ {X : Type 0} (test : X → Bool) where
   -- by what it says of the first
@@ -11,11 +11,11 @@ module _ {X : Type 0} (test : X → Bool) where
   leaves x xs e = rw e
 
   -- where it says the same of every element
-  pub kept_all : (xs : List X) → All (λ x. test x ≡ true) xs → filter test xs ≡ xs
+  pub kept_all : (xs : List X) → AllByRecursion (λ x. test x ≡ true) xs → filter test xs ≡ xs
   kept_all [] h = refl
   kept_all (x ∷ xs) h = keeps x xs h.0 ∙ ap (λ l. x ∷ l) (kept_all xs h.1)
 
-  pub kept_none : (xs : List X) → All (λ x. test x ≡ false) xs → filter test xs ≡ []
+  pub kept_none : (xs : List X) → AllByRecursion (λ x. test x ≡ false) xs → filter test xs ≡ []
   kept_none [] h = refl
   kept_none (x ∷ xs) h = leaves x xs h.0 ∙ kept_none xs h.1
 

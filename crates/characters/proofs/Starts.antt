@@ -1,6 +1,6 @@
 -- Steps over the starts of a text. Assumes nothing.
 use Rattle.std.proofs.Common.{◌≡◌, ℕ, zero, suc, ◌+◌, ◌-◌, ◌<◌, ◌≤◌, ltb, leb, ◌⊎◌, List, [], ◌∷◌, ◌++◌, map, reverse, length, get_or, Some, None, filter, Option, sym, refl, ap, ◌∙◌, subst, inl, inr, ⊎_elim, add-one, arith, length-append}
-use Rattle.std.specs.List.{slice_get, AllByRecursion as All}
+use Rattle.std.specs.List.{slice_get, AllByRecursion}
 use Rattle.std.proofs.lemmas.List.Elements.{filter-append}
 use Rattle.std.proofs.ByRecursion.{all_kept_by}
 use Rattle.std.proofs.lemmas.List.{reverse-append}
@@ -181,17 +181,17 @@ module _ (t : Text) (ok : Lawful t) where
   back_stop i (suc n) l e = back_none i n e
 
   -- no start is past the size
-  starts_within : All (λ s. s ≤ t.size) (starts t)
+  starts_within : AllByRecursion (λ s. s ≤ t.size) (starts t)
   starts_within = go 0 t.points ok.rises
     where
-      go : (low : ℕ) (ps : List Point) → Rises low ps t.size → All (λ s. s ≤ t.size) (map (λ p. p.at) ps ++ t.size ∷ [])
+      go : (low : ℕ) (ps : List Point) → Rises low ps t.size → AllByRecursion (λ s. s ≤ t.size) (map (λ p. p.at) ps ++ t.size ∷ [])
       go low [] h = (omega arith, tt)
       go low (p ∷ ps) h = (omega (arith, rises_under (suc p.at) ps t.size h.1), go (suc p.at) ps h.1)
 
   pub start_from_within : (i : ℕ) → start_from t i ≤ t.size
   start_from_within i = go _ (all_kept_by (leb i) (λ s. s ≤ t.size) (starts t) starts_within)
     where
-      go : (xs : List ℕ) → All (λ s. s ≤ t.size) xs → get_or xs 0 t.size ≤ t.size
+      go : (xs : List ℕ) → AllByRecursion (λ s. s ≤ t.size) xs → get_or xs 0 t.size ≤ t.size
       go [] a = omega arith
       go (x ∷ xs) a = a.0
 

@@ -1,7 +1,7 @@
 -- What is looked at ahead of the cursor, and behind it. Assumes nothing.
 use Rattle.std.proofs.Common.{◌≡◌, ℕ, zero, suc, ◌≤◌, Bool, true, false, cond, not, ◌&&◌, eqb, ltb, List, [], ◌∷◌, ◌++◌, map, reverse, get_or, ℤ, negsuc, Some, None, filter, Option, sym, refl, ap, ◌∙◌, subst, append-nil, arith}
 use mathlib.Core.List.{reverse-cons}
-use Rattle.std.specs.List.{slice_get, AllByRecursion as All}
+use Rattle.std.specs.List.{slice_get, AllByRecursion}
 use Rattle.std.proofs.lemmas.List.{map-append}
 use Rattle.std.proofs.lemmas.List.Elements.{filter-append}
 use Rattle.std.proofs.ByRecursion.{all_kept_by, All-push}
@@ -55,12 +55,12 @@ reverse_map : {X Y : Type 0} (f : X → Y) (xs : List X) → reverse (map f xs) 
 reverse_map f [] = refl
 reverse_map f (x ∷ xs) = reverse-cons (f x) (map f xs) ∙ ap (λ l. l ++ f x ∷ []) (reverse_map f xs) ∙ sym (ap (map f) (reverse-cons x xs) ∙ map-append f (reverse xs) (x ∷ []))
 
-all_reverse : {X : Type 0} (P : X → Type 0) (xs : List X) → All P xs → All P (reverse xs)
+all_reverse : {X : Type 0} (P : X → Type 0) (xs : List X) → AllByRecursion P xs → AllByRecursion P (reverse xs)
 all_reverse P [] a = tt
-all_reverse P (x ∷ xs) a = subst (All P) (sym (reverse-cons x xs)) (All-push P (reverse xs) x (all_reverse P xs a.1) a.0)
+all_reverse P (x ∷ xs) a = subst (AllByRecursion P) (sym (reverse-cons x xs)) (All-push P (reverse xs) x (all_reverse P xs a.1) a.0)
 
 -- each code point is the one that starts at its position
-items : (low : ℕ) (ps : List Point) (size : ℕ) → Rises low ps size → (item : ℕ → Option ℕ) → ((i : ℕ) → low ≤ i → item i ≡ item_of ps i) → All (λ p. item p.at ≡ Some p.code) ps
+items : (low : ℕ) (ps : List Point) (size : ℕ) → Rises low ps size → (item : ℕ → Option ℕ) → ((i : ℕ) → low ≤ i → item i ≡ item_of ps i) → AllByRecursion (λ p. item p.at ≡ Some p.code) ps
 items low [] size h item same = tt
 items low (p ∷ ps) size h item same = (
   same p.at h.0 ∙ ap (λ qs. slice_get (map (λ q. q.code) qs) 0) (keeps (λ q. eqb p.at q.at) p ps (eq-eqb p.at p.at refl)),
@@ -103,7 +103,7 @@ module _ (t : Text) (ok : Lawful t) where
       ap (λ ys. seen s k nothing (slice_get ys k)) (reverse_map symbol (before i t.points)) ∙ go k (reverse (before i t.points)) k all
       ∙ sym (ap (λ l. gives (reached t nothing (slice_get l k))) (ap reverse (starts_before i inside) ∙ reverse_map (λ p. p.at) (before i t.points)))
     where
-      go : (n : ℕ) (ps : List Point) (k : ℕ) → All (λ p. item_at t p.at ≡ Some p.code) ps → seen s n nothing (slice_get (map symbol ps) k) ≡ gives (reached t nothing (slice_get (map (λ p. p.at) ps) k))
+      go : (n : ℕ) (ps : List Point) (k : ℕ) → AllByRecursion (λ p. item_at t p.at ≡ Some p.code) ps → seen s n nothing (slice_get (map symbol ps) k) ≡ gives (reached t nothing (slice_get (map (λ p. p.at) ps) k))
       go n [] k a = refl
       go n (p ∷ ps) zero a = seen_given s e n nothing (symbol p) ∙ sym (ap (λ r. gives (number_of r)) a.0)
       go n (p ∷ ps) (suc k) a = go n ps k a.1

@@ -2,7 +2,7 @@
 use Rattle.std.proofs.Common.{◌≡◌, ℕ, suc, ◌+◌, ◌<◌, ◌≤◌, Bool, true, false, cond, ◌&&◌, ltb, leb, ◌⊎◌, List, [], ◌∷◌, ◌++◌, map, length, take, Some, None, filter, Option, sym, refl, ap, ◌∙◌, subst, inl, inr, ⊎_elim, arith, length-append, length-drop}
 use mathlib.Core.Path.{fun_ext}
 use lib.ListN.{length-map}
-use Rattle.std.specs.List.{AllByRecursion as All}
+use Rattle.std.specs.List.{AllByRecursion}
 use Rattle.std.proofs.lemmas.List.{append_cancel_right, map-append, take_at, take-map}
 use Rattle.std.proofs.lemmas.List.Elements.{filter-append}
 use Rattle.std.proofs.ByRecursion.{all-has, has_append_right}
@@ -160,11 +160,11 @@ module _ (t : Text) (ok : Lawful t) where
       go (Some d) f = let same : d ≡ c = cc (sym (between_some i j d f l) ∙ e) in f ∙ ap Some same
 
   -- what holds of all symbols of a piece holds of the one at a position in it
-  pub all_between : (P : ℕ → Type 0) (i j p c : ℕ) → All P (between t i j) → item_at t p ≡ Some c → i ≤ p → p < j → P c
+  pub all_between : (P : ℕ → Type 0) (i j p c : ℕ) → AllByRecursion P (between t i j) → item_at t p ≡ Some c → i ≤ p → p < j → P c
   all_between P i j p c a e l m =
       let rest = between t (start_from t (suc p)) j in
       let is = between_cut i p j l (omega arith) ∙ ap (λ l. between t i p ++ l) (between_some p j c e m) in
-      all-has P (between t i p ++ c ∷ rest) c (subst (All P) is a) (has_append_right (between t i p) (c ∷ rest) c (0, omega arith, λ d. refl))
+      all-has P (between t i p ++ c ∷ rest) c (subst (AllByRecursion P) is a) (has_append_right (between t i p) (c ∷ rest) c (0, omega arith, λ d. refl))
 
   -- no symbol stands before the first start
   pub none_before : (p c : ℕ) → item_at t p ≡ Some c → start_from t 0 ≤ p

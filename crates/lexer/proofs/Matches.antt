@@ -1,6 +1,6 @@
 -- The symbols that a match takes make a lexeme, and no more of them do. Assumes nothing.
 use Rattle.std.proofs.Common.{◌≡◌, ℕ, zero, suc, ◌+◌, ◌<◌, ◌≤◌, Bool, true, false, cond, not, ◌||◌, eqb, leb, ◌⊎◌, List, [], ◌∷◌, ◌++◌, length, take, drop, sym, refl, ap, ◌∙◌, subst, inl, inr, ⊎_elim, add-zero, arith, length-append, take-append-drop, length-take-le, take-add}
-use Rattle.std.specs.List.{prefix_len, AllByRecursion as All}
+use Rattle.std.specs.List.{prefix_len, AllByRecursion}
 use Rattle.std.proofs.lemmas.List.Sums.{prefix_len-le-length}
 use Rattle.std.proofs.lemmas.List.{append_assoc, take_at, drop_at}
 use Rattle.std.proofs.lemmas.Bool.{eqb-true, leb-true, lt-leb, and_parts, and_left, or_from, or_cases, not_from_false, not-true}
@@ -62,18 +62,18 @@ class_blank c e =
     ⊎_elim (λ h. ap class (eqb-true c 32 h)) (λ h. ⊎_elim (λ h. ap class (eqb-true c 9 h)) (λ h. ap class (eqb-true c 13 h)) (or_cases (eqb c 9) (eqb c 13) h)) (or_cases (eqb c 32) (eqb c 9 || eqb c 13) e)
 
 -- what a run takes passes its test
-pub leading_all : (test : ℕ → Bool) (cs : List ℕ) → All (λ c. test c ≡ true) (take (prefix_len test cs) cs)
+pub leading_all : (test : ℕ → Bool) (cs : List ℕ) → AllByRecursion (λ c. test c ≡ true) (take (prefix_len test cs) cs)
 leading_all test [] = tt
 leading_all test (c ∷ cs) = go (test c) refl (leading_all test cs)
   where
-    go : (b : Bool) → test c ≡ b → All (λ c. test c ≡ true) (take (prefix_len test cs) cs) → All (λ c. test c ≡ true) (take (cond b (1 + prefix_len test cs) 0) (c ∷ cs))
+    go : (b : Bool) → test c ≡ b → AllByRecursion (λ c. test c ≡ true) (take (prefix_len test cs) cs) → AllByRecursion (λ c. test c ≡ true) (take (cond b (1 + prefix_len test cs) 0) (c ∷ cs))
     go true e rest =
         let next : suc (prefix_len test cs) ≡ 1 + prefix_len test cs = omega arith in
-        subst (λ n. All (λ c. test c ≡ true) (take n (c ∷ cs))) next (e, rest)
+        subst (λ n. AllByRecursion (λ c. test c ≡ true) (take n (c ∷ cs))) next (e, rest)
     go false e rest = tt
 
 -- and no longer front does
-pub leading_most : (test : ℕ → Bool) (cs : List ℕ) (m : ℕ) → m ≤ length cs → All (λ c. test c ≡ true) (take m cs) → m ≤ prefix_len test cs
+pub leading_most : (test : ℕ → Bool) (cs : List ℕ) (m : ℕ) → m ≤ length cs → AllByRecursion (λ c. test c ≡ true) (take m cs) → m ≤ prefix_len test cs
 leading_most test cs zero h all = omega arith
 leading_most test [] (suc m) h all = omega arith
 leading_most test (c ∷ cs) (suc m) h all =
@@ -85,11 +85,11 @@ begun : (test : ℕ → Bool) (c : ℕ) (cs : List ℕ) → test c ≡ true → 
 begun test c cs e = (omega arith, (e, leading_all test cs))
 
 -- the symbols of a remark after its `#`
-not_feeds : (cs : List ℕ) → All (λ c. not (line_feed c) ≡ true) cs → All (λ c. line_feed c ≡ false) cs
+not_feeds : (cs : List ℕ) → AllByRecursion (λ c. not (line_feed c) ≡ true) cs → AllByRecursion (λ c. line_feed c ≡ false) cs
 not_feeds [] all = tt
 not_feeds (c ∷ cs) all = (not-true (line_feed c) all.0, not_feeds cs all.1)
 
-feeds_not : (cs : List ℕ) → All (λ c. line_feed c ≡ false) cs → All (λ c. not (line_feed c) ≡ true) cs
+feeds_not : (cs : List ℕ) → AllByRecursion (λ c. line_feed c ≡ false) cs → AllByRecursion (λ c. not (line_feed c) ≡ true) cs
 feeds_not [] all = tt
 feeds_not (c ∷ cs) all = (not_from_false (line_feed c) all.0, feeds_not cs all.1)
 
@@ -110,7 +110,7 @@ module _ (c : ℕ) (cs : List ℕ) (first : digit c ≡ true) where
       ap (λ m. take m cs) same ∙ take-add (prefix_len digit cs) (suc (suc n)) cs ∙ ap (λ l. take (prefix_len digit cs) cs ++ take (suc (suc n)) l) e in
       let long : suc n ≤ length xs = omega (arith, prefix_len-le-length digit xs) in
       let some : 0 < length (take (suc n) xs) = omega (arith, length-take-le (suc n) xs long) in
-      subst (λ l. Lexeme 2 (c ∷ l)) (sym split) (decimal (c ∷ take (prefix_len digit cs) cs) (take (suc n) xs) (begun digit c cs first) (some, subst (λ m. All (λ c. digit c ≡ true) (take m xs)) f (leading_all digit xs)))
+      subst (λ l. Lexeme 2 (c ∷ l)) (sym split) (decimal (c ∷ take (prefix_len digit cs) cs) (take (suc n) xs) (begun digit c cs first) (some, subst (λ m. AllByRecursion (λ c. digit c ≡ true) (take m xs)) f (leading_all digit xs)))
 
   number_lexeme : Lexeme 2 (c ∷ take (number cs) cs)
   number_lexeme = go (drop (prefix_len digit cs) cs) refl
@@ -133,7 +133,7 @@ lexeme_of c cs Hash (hashes e) = subst (λ c. Lexeme 5 (c ∷ take (more Hash cs
 lexeme_of c cs Other (others e) = other e
 
 -- a run stops before a symbol that does not pass
-leading_stops : (test : ℕ → Bool) (xs : List ℕ) (y : ℕ) (zs : List ℕ) → All (λ c. test c ≡ true) xs → test y ≡ false → prefix_len test (xs ++ y ∷ zs) ≡ length xs
+leading_stops : (test : ℕ → Bool) (xs : List ℕ) (y : ℕ) (zs : List ℕ) → AllByRecursion (λ c. test c ≡ true) xs → test y ≡ false → prefix_len test (xs ++ y ∷ zs) ≡ length xs
 leading_stops test [] y zs all stop = ap (λ b. cond b (1 + prefix_len test zs) 0) stop
 leading_stops test (x ∷ xs) y zs all stop =
     let more : 1 + prefix_len test (xs ++ y ∷ zs) ≡ suc (length xs) = omega (arith, leading_stops test xs y zs all.1 stop) in
@@ -144,24 +144,24 @@ pointed_more zero h = absurd (omega arith)
 pointed_more (suc n) h = omega arith
 
 -- digits, a point and digits: a number takes at least these
-number_least : (xs ds zs : List ℕ) → All (λ c. digit c ≡ true) xs → Run digit ds → length xs + (1 + length ds) ≤ number (xs ++ 46 ∷ (ds ++ zs))
+number_least : (xs ds zs : List ℕ) → AllByRecursion (λ c. digit c ≡ true) xs → Run digit ds → length xs + (1 + length ds) ≤ number (xs ++ 46 ∷ (ds ++ zs))
 number_least xs ds zs front back =
     let whole = leading_stops digit xs 46 (ds ++ zs) front refl in
     let left : drop (prefix_len digit (xs ++ 46 ∷ (ds ++ zs))) (xs ++ 46 ∷ (ds ++ zs)) ≡ 46 ∷ (ds ++ zs) = drop_at xs (46 ∷ (ds ++ zs)) _ (sym whole) in
-    let more = leading_most digit (ds ++ zs) (length ds) (omega (arith, length-append ds zs)) (subst (All (λ c. digit c ≡ true)) (sym (take_at ds zs (length ds) refl)) back.1) in
+    let more = leading_most digit (ds ++ zs) (length ds) (omega (arith, length-append ds zs)) (subst (AllByRecursion (λ c. digit c ≡ true)) (sym (take_at ds zs (length ds) refl)) back.1) in
     omega (arith, whole, number_rest (xs ++ 46 ∷ (ds ++ zs)) (46 ∷ (ds ++ zs)) left, pointed_more (prefix_len digit (ds ++ zs)) (omega (arith, back.0, more)), more)
 
 -- a longer piece is no lexeme of any type
 module _ (c : ℕ) (cs : List ℕ) (m : ℕ) (held : m ≤ length cs) (longer : more (class c) cs < m) where
   -- a run of one test stops before
-  stops : (test : ℕ → Bool) (k : Class) → class c ≡ k → prefix_len test cs ≤ more k cs → All (λ c. test c ≡ true) (take m cs) → ⊥
+  stops : (test : ℕ → Bool) (k : Class) → class c ≡ k → prefix_len test cs ≤ more k cs → AllByRecursion (λ c. test c ≡ true) (take m cs) → ⊥
   stops test k is same all = omega (arith, leading_most test cs m held all, ap (λ k. more k cs) is, same)
 
   single : {x : ℕ} → x ∷ [] ≡ c ∷ take m cs → ⊥
   single e = omega (arith, ap length e, length-take-le m cs held)
 
-  rest_all : (test : ℕ → Bool) (xs : List ℕ) → xs ≡ c ∷ take m cs → All (λ c. test c ≡ true) xs → (test c ≡ true) × All (λ c. test c ≡ true) (take m cs)
-  rest_all test xs e all = subst (All (λ c. test c ≡ true)) e all
+  rest_all : (test : ℕ → Bool) (xs : List ℕ) → xs ≡ c ∷ take m cs → AllByRecursion (λ c. test c ≡ true) xs → (test c ≡ true) × AllByRecursion (λ c. test c ≡ true) (take m cs)
+  rest_all test xs e all = subst (AllByRecursion (λ c. test c ≡ true)) e all
 
   no_decimal : (xs ds : List ℕ) → Run digit xs → Run digit ds → xs ++ 46 ∷ ds ≡ c ∷ take m cs → ⊥
   no_decimal [] ds front back e = omega (arith, front.0)
@@ -180,5 +180,5 @@ module _ (c : ℕ) (cs : List ℕ) (m : ℕ) (held : m ≤ length cs) (longer : 
   none_longer (space run) e = let all = rest_all blank _ e run.1 in stops blank Blank (class_blank c all.0) (omega arith) all.1
   none_longer (remark quiet) e =
       let first : 35 ≡ c = cc in
-      stops (λ c. not (line_feed c)) Hash (ap class (sym first)) (omega arith) (subst (All (λ c. not (line_feed c) ≡ true)) (ap (drop 1) e) (feeds_not _ quiet))
+      stops (λ c. not (line_feed c)) Hash (ap class (sym first)) (omega arith) (subst (AllByRecursion (λ c. not (line_feed c) ≡ true)) (ap (drop 1) e) (feeds_not _ quiet))
   none_longer (other is) e = single e

@@ -1,6 +1,6 @@
 -- The line and the column after a match. Assumes nothing.
 use Rattle.std.proofs.Common.{◌≡◌, ℕ, suc, ◌+◌, Bool, true, false, cond, not, List, [], ◌∷◌, ◌++◌, reverse, length, count_by, sym, refl, ap, ◌∙◌, subst, ⊎_elim, arith}
-use Rattle.std.specs.List.{prefix_len, suffix_len, AllByRecursion as All}
+use Rattle.std.specs.List.{prefix_len, suffix_len, AllByRecursion}
 use Rattle.std.proofs.ByRecursion.{All-append, All-weaker}
 use Rattle.std.proofs.lemmas.List.{reverse-append, length-reverse}
 use Rattle.std.proofs.lemmas.List.Sums.{sum_by-append, sum_by-cons}
@@ -14,7 +14,7 @@ use Rattle.lexer.proofs.Matches.{class_letter, class_digit, class_blank}
 use Rattle.lexer.proofs.Pulling.{line_feed_line, line_feed_column, same_line, same_line_column}
 
 abbrev pub Quiet : List ℕ → Type 0
-Quiet cs = All (λ c. line_feed c ≡ false) cs
+Quiet cs = AllByRecursion (λ c. line_feed c ≡ false) cs
 
 -- only the line feed is of its class
 not_feed : (c : ℕ) → (class c ≡ LineFeed → ⊥) → line_feed c ≡ false
@@ -35,7 +35,7 @@ blank_is_none e = let z : ◌≡◌ {A = ℕ} 0 1 = cc in omega arith
 other_is_none : Other ≡ LineFeed → ⊥
 other_is_none e = let z : ◌≡◌ {A = ℕ} 0 1 = cc in omega arith
 
-digits_quiet : (cs : List ℕ) → All (λ c. digit c ≡ true) cs → Quiet cs
+digits_quiet : (cs : List ℕ) → AllByRecursion (λ c. digit c ≡ true) cs → Quiet cs
 digits_quiet cs all = All-weaker (λ c. digit c ≡ true) (λ c. line_feed c ≡ false) (λ c e. of_class c Digit (class_digit c e) digit_is_none) cs all
 
 -- a lexeme of another type holds no line feed
@@ -55,15 +55,15 @@ quiet_count (c ∷ cs) q = sum_by-cons (λ c. cond (line_feed c) 1 0) c cs ∙ (
 pub lines_add : (xs ys : List ℕ) → count_by line_feed (xs ++ ys) ≡ count_by line_feed xs + count_by line_feed ys
 lines_add xs ys = sum_by-append (λ c. cond (line_feed c) 1 0) xs ys
 
-leading_past : (test : ℕ → Bool) (xs ys : List ℕ) → All (λ c. test c ≡ true) xs → prefix_len test (xs ++ ys) ≡ length xs + prefix_len test ys
+leading_past : (test : ℕ → Bool) (xs ys : List ℕ) → AllByRecursion (λ c. test c ≡ true) xs → prefix_len test (xs ++ ys) ≡ length xs + prefix_len test ys
 leading_past test [] ys all = omega arith
 leading_past test (x ∷ xs) ys all =
     let more : 1 + prefix_len test (xs ++ ys) ≡ suc (length xs) + prefix_len test ys = omega (arith, leading_past test xs ys all.1) in
     ap (λ b. cond b (1 + prefix_len test (xs ++ ys)) 0) all.0 ∙ more
 
-all_reverse : (P : ℕ → Type 0) (cs : List ℕ) → All P cs → All P (reverse cs)
+all_reverse : (P : ℕ → Type 0) (cs : List ℕ) → AllByRecursion P cs → AllByRecursion P (reverse cs)
 all_reverse P [] all = tt
-all_reverse P (c ∷ cs) all = subst (All P) (sym (reverse-append (c ∷ []) cs)) (All-append P (reverse cs) (c ∷ []) (all_reverse P cs all.1) (all.0, tt))
+all_reverse P (c ∷ cs) all = subst (AllByRecursion P) (sym (reverse-append (c ∷ []) cs)) (All-append P (reverse cs) (c ∷ []) (all_reverse P cs all.1) (all.0, tt))
 
 -- symbols of the same line add to the column
 pub columns_add : (xs ys : List ℕ) → Quiet ys → suffix_len (λ c. not (line_feed c)) (xs ++ ys) ≡ suffix_len (λ c. not (line_feed c)) xs + length ys

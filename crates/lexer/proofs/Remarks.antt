@@ -1,7 +1,7 @@
 -- The tokens of a sheet keep values, remarks and space apart. Assumes nothing.
 use Rattle.std.proofs.Common.{◌≡◌, ℕ, zero, suc, ◌<◌, ◌≤◌, Bool, true, false, ◌&&◌, leb, ◌⊎◌, List, [], ◌∷◌, ◌++◌, pos, Some, None, filter, Option, sym, refl, ap, ◌∙◌, subst, inl, inr, ⊎_elim, arith}
 use lib.Signed.{le_z}
-use Rattle.std.specs.List.{AllByRecursion as All}
+use Rattle.std.specs.List.{AllByRecursion}
 use Rattle.std.proofs.ByRecursion.{All-append, All-push, All-weaker}
 use Rattle.std.proofs.lemmas.Bool.{false≢true, true≢false, leb-true, le-leb, lt-leb, ne_eqb, and_parts, and_from, and_left, and_right, cases_lt, cases_eq}
 use Rattle.characters.specs.Text.{Text, Lawful, start_from, item_at}
@@ -18,28 +18,28 @@ use Rattle.lexer.specs.Remarks.{InRemark, covers, Apart, ToldApart}
 use Rattle.lexer.proofs.Betweens.{between_more, between_first, all_between, none_before}
 
 -- a test that fails at 35 tells a symbol from `#`
-not_hash : (test : ℕ → Bool) → test 35 ≡ false → (cs : List ℕ) → All (λ c. test c ≡ true) cs → All (λ c. c ≡ 35 → ⊥) cs
+not_hash : (test : ℕ → Bool) → test 35 ≡ false → (cs : List ℕ) → AllByRecursion (λ c. test c ≡ true) cs → AllByRecursion (λ c. c ≡ 35 → ⊥) cs
 not_hash test fails cs a = All-weaker (λ c. test c ≡ true) (λ c. c ≡ 35 → ⊥) (λ c passes is. false≢true (sym fails ∙ ap test (sym is) ∙ passes)) cs a
 
 -- a lexeme of another type than 5 holds no `#`, and on channel 1 it is blank
 record Plain (type : ℕ) (cs : List ℕ) : Type 0 where
   apart : pos (channel type) ≡ pos 2 → ⊥
-  unmarked : All (λ c. c ≡ 35 → ⊥) cs
-  blanks : pos (channel type) ≡ pos 1 → All (λ c. blank c ≡ true) cs
+  unmarked : AllByRecursion (λ c. c ≡ 35 → ⊥) cs
+  blanks : pos (channel type) ≡ pos 1 → AllByRecursion (λ c. blank c ≡ true) cs
 
 -- one of type 5 is a `#` and what follows on its line
 record Marked (type : ℕ) (cs : List ℕ) : Type 0 where
   typed : type ≡ 5
   follows : List ℕ
   first : cs ≡ 35 ∷ follows
-  line : All (λ c. line_feed c ≡ false) follows
+  line : AllByRecursion (λ c. line_feed c ≡ false) follows
 
 -- equal channels have equal numbers
 same_channel : (m n : ℕ) → pos m ≡ pos n → m ≡ n
 same_channel m n e = cc
 
 -- on channel 0 there is only that no `#` is held
-plain_value : (type : ℕ) (cs : List ℕ) → channel type ≡ 0 → All (λ c. c ≡ 35 → ⊥) cs → Plain type cs
+plain_value : (type : ℕ) (cs : List ℕ) → channel type ≡ 0 → AllByRecursion (λ c. c ≡ 35 → ⊥) cs → Plain type cs
 plain_value type cs zeroth a = record {
   apart = λ e. omega (arith, zeroth, same_channel (channel type) 2 e);
   unmarked = a;
@@ -73,7 +73,7 @@ module _ (t : Text) (ok : Lawful t) where
   closed_first p c r l m e = omega (arith, none_before t ok r.hash 35 r.marked)
 
   -- a piece with no `#`, where no remark reaches in, lies outside of remarks
-  outside : (i j : ℕ) → Closed t i → All (λ c. c ≡ 35 → ⊥) (between t i j) → (p c : ℕ) → item_at t p ≡ Some c → i ≤ p → p < j → InRemark t p → ⊥
+  outside : (i j : ℕ) → Closed t i → AllByRecursion (λ c. c ≡ 35 → ⊥) (between t i j) → (p c : ℕ) → item_at t p ≡ Some c → i ≤ p → p < j → InRemark t p → ⊥
   outside i j closed plain p c e l m r = ⊎_elim
       (λ k. closed p c r k l e)
       (λ k. all_between t ok (λ c. c ≡ 35 → ⊥) i j r.hash 35 plain r.marked k (omega (arith, r.before)) refl)
@@ -85,7 +85,7 @@ module _ (t : Text) (ok : Lawful t) where
     where
       longer : (d : ℕ) → item_at t j ≡ Some d → (d ≡ 10 → ⊥) → ⊥
       longer d f feed =
-          let all : All (λ c. line_feed c ≡ false) (k.follows ++ d ∷ []) = All-push (λ c. line_feed c ≡ false) k.follows d k.line (ne_eqb d 10 feed) in
+          let all : AllByRecursion (λ c. line_feed c ≡ false) (k.follows ++ d ∷ []) = All-push (λ c. line_feed c ≡ false) k.follows d k.line (ne_eqb d 10 feed) in
           let is : between t i (start_from t (suc j)) ≡ 35 ∷ (k.follows ++ d ∷ []) = between_more t ok i j d (omega (arith, m.some)) f ∙ ap (λ l. l ++ d ∷ []) k.first in
           m.longest (start_from t (suc j)) 5 (start_from_above t ok (suc j) (item_within t ok j d f)) (start_from_within t ok (suc j)) (subst (Lexeme 5) (sym is) (remark all))
 
@@ -149,8 +149,8 @@ module _ (t : Text) (ok : Lawful t) where
       on : pos (channel type) ≡ pos 2
       on = ap (λ type. pos (channel type)) marked.typed
 
-      unfed : All (λ c. c ≡ 10 → ⊥) (between t i j)
-      unfed = subst (All (λ c. c ≡ 10 → ⊥)) (sym marked.first) (λ e. omega arith, All-weaker (λ c. line_feed c ≡ false) (λ c. c ≡ 10 → ⊥) not_feed marked.follows marked.line)
+      unfed : AllByRecursion (λ c. c ≡ 10 → ⊥) (between t i j)
+      unfed = subst (AllByRecursion (λ c. c ≡ 10 → ⊥)) (sym marked.first) (λ e. omega arith, All-weaker (λ c. line_feed c ≡ false) (λ c. c ≡ 10 → ⊥) not_feed marked.follows marked.line)
 
       inside : (p : ℕ) → (i ≤ p) × (p < j) → InRemark t p
       inside p both = record {
@@ -163,7 +163,7 @@ module _ (t : Text) (ok : Lawful t) where
   apart_token : (i j type : ℕ) → start_from t i ≡ i → Closed t i → Match t i j type → Apart t (token t i j type)
   apart_token i j type s closed m = ⊎_elim (apart_plain i j type closed) (apart_marked i j type s m.some) (sorted m.lexeme)
 
-  each_apart : {i : ℕ} {ks : List Token} → Tokens t i ks → start_from t i ≡ i → Closed t i → All (Apart t) ks
+  each_apart : {i : ℕ} {ks : List Token} → Tokens t i ks → start_from t i ≡ i → Closed t i → AllByRecursion (Apart t) ks
   each_apart ended s closed = (apart_eof, tt)
   each_apart (then {i} {j} {type} m rest) s closed = (apart_token i j type s closed m, each_apart rest m.start (closed_next t ok i j type m closed))
 

@@ -1,6 +1,6 @@
 -- Values, remarks and space told apart. Assumes nothing.
 use Rattle.std.specs.Prelude.{◌≡◌, ℕ, ◌≤◌, Bool, true, false, ◌&&◌, List, [], ◌∷◌, pos, Some, filter, ◌≢◌, int_le}
-use Rattle.std.specs.List.{AllByRecursion as All}
+use Rattle.std.specs.List.{AllByRecursion}
 use Rattle.characters.specs.Text.{Text, item_at}
 use Rattle.tokens.specs.declared.token.Token.{Token}
 use Rattle.tokens.specs.Tokens.{is_eof}
@@ -24,5 +24,5 @@ pub record Apart (t : Text) (k : Token) : Type 0 where
 
 -- each token keeps them apart, and one token alone covers a symbol, which is not the EOF
 pub record ToldApart (t : Text) (ks : List Token) : Type 0 where
-  pub each : All (Apart t) ks
+  pub each : AllByRecursion (Apart t) ks
   pub once : (i c : ℕ) → item_at t i ≡ Some c → (k : Token) × (is_eof k ≡ false) × (filter (λ k. covers k i) ks ≡ k ∷ [])

@@ -1,6 +1,6 @@
 -- A list of calls, one after the other. Assumes nothing.
 use Rattle.std.proofs.Common.{◌≡◌, ℕ, suc, ◌+◌, ◌<◌, ◌≤◌, ltb, List, [], ◌∷◌, ◌++◌, map, length, get_or, drop, set, sym, refl, ap, ◌∙◌, subst, arith}
-use Rattle.std.specs.List.{AllByRecursion as All}
+use Rattle.std.specs.List.{AllByRecursion}
 use Rattle.std.proofs.lemmas.List.{append_assoc, append-nil, length_push, length-map, drop_more, drop_all, set_at, map-set}
 use Rattle.std.proofs.ByRecursion.{All-push}
 use Rattle.std.proofs.lemmas.Bool.{le-ltb, lt-ltb, cond-true, cond-false}
@@ -26,7 +26,7 @@ pub record Ran (u : Unbuffered) (old : List ℕ) (cs : List Call) (before : List
   pub after_is : after_all u cs ≡ after_all w (drop at cs)
   pub left_is : left_by_all u old cs ≡ left_by_all w out (drop at cs)
   pub same_feed : w.feed ≡ u.feed
-  pub tokens : All (OfList u.feed.list) given
+  pub tokens : AllByRecursion (OfList u.feed.list) given
 
 pub record Going (shown : Unbuffered → Type 0) (u : Unbuffered) (old : List ℕ) (cs : List Call) (before : List Reply) (at : ℕ) (out : List ℕ) (now : List Reply) : Type 0 where
   pub stream : Unbuffered
@@ -61,7 +61,7 @@ length_replies u out [] = refl
 length_replies u out (c ∷ cs) = ap suc (length_replies (after u c) (left_by u out c) cs)
 
 -- the law, from the last stream that is shown
-pub the_law : (u : Unbuffered) (out : List ℕ) (cs : List Call) (w : Unbuffered) (v : View) (coming : List Token) (text : Token → List ℕ) (cursor : ℕ) (b : Token) (status : Status) → after_all u cs ≡ w → w.feed ≡ u.feed → All (OfList u.feed.list) (replies u out cs) → Together w v coming text cursor b status → ShowsTheList u out cs
+pub the_law : (u : Unbuffered) (out : List ℕ) (cs : List Call) (w : Unbuffered) (v : View) (coming : List Token) (text : Token → List ℕ) (cursor : ℕ) (b : Token) (status : Status) → after_all u cs ≡ w → w.feed ≡ u.feed → AllByRecursion (OfList u.feed.list) (replies u out cs) → Together w v coming text cursor b status → ShowsTheList u out cs
 the_law u out cs w v coming text cursor b status last same tokens t =
     let list : length w.feed.list ≡ length u.feed.list = ap (λ f. length f.list) same in
     record {
@@ -100,8 +100,8 @@ module _ (u : Unbuffered) (old : List ℕ) (cs : List Call) (before : List Reply
   pub all_left : left_by_all u old cs ≡ out
   all_left = ran.left_is ∙ ap (left_by_all w out) none_left
 
-  pub all_tokens : All (OfList u.feed.list) (replies u old cs)
-  all_tokens = subst (All (OfList u.feed.list)) given_all ran.tokens
+  pub all_tokens : AllByRecursion (OfList u.feed.list) (replies u old cs)
+  all_tokens = subst (AllByRecursion (OfList u.feed.list)) given_all ran.tokens
 
   pub all_replied : map reply_of now ≡ overwritten (replies u old cs) (map reply_of before)
   all_replied =

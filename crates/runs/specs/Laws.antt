@@ -1,6 +1,6 @@
 -- What holds of every list of calls, whatever was dropped on the way. Assumes nothing.
 use Rattle.std.specs.Prelude.{◌≡◌, ℕ, ◌<◌, ◌≤◌, List, length, drop, Some, None, slice_index_or}
-use Rattle.std.specs.List.{AllByRecursion as All}
+use Rattle.std.specs.List.{AllByRecursion}
 use Rattle.characters.specs.Signed.{upward}
 use Rattle.tokens.specs.declared.token.Token.{Token}
 use Rattle.windows.specs.Lists.{stamps, blank}
@@ -23,7 +23,7 @@ OfList list (refused n) = Unit {0}
 -- the window may hold or the list has.
 pub record ShowsTheList (u : Unbuffered) (out : List ℕ) (cs : List Call) : Type 0 where
   pub the_list_stays : (after_all u cs).feed ≡ u.feed
-  pub tokens_are_of_the_list : All (OfList u.feed.list) (replies u out cs)
+  pub tokens_are_of_the_list : AllByRecursion (OfList u.feed.list) (replies u out cs)
   pub cursor_on_a_token : (after_all u cs).cursor < length u.feed.list
   pub floor_never_passes_the_cursor : (after_all u cs).floor ≤ (after_all u cs).cursor
   pub none_pulled_past_the_eof : (after_all u cs).pulled ≤ length u.feed.list

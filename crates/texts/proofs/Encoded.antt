@@ -2,7 +2,7 @@
 use Rattle.std.proofs.Common.{◌≡◌, ℕ, zero, suc, ◌+◌, ◌-◌, ◌/◌, ◌%◌, ◌<◌, ◌≤◌, true, false, cond, ◌&&◌, eqb, ltb, leb, List, [], ◌∷◌, ◌++◌, length, get_or, take, drop, Some, None, sym, refl, ap, ◌∙◌, ⊎_elim, add-zero, arith}
 use lib.Utf8.{scalar, scalars, encode, encodes, next}
 use Rattle.std.specs.Char.{len_utf8}
-use Rattle.std.specs.List.{AllByRecursion as All}
+use Rattle.std.specs.List.{AllByRecursion}
 use Rattle.std.specs.Str.{chars}
 use Rattle.std.proofs.ByRecursion.{All-get_or}
 use Rattle.std.proofs.lemmas.List.{length-append, length-take, length-drop, get_or-append-add, get_or_append_left, get_or-drop, drop_at, take_at}
@@ -18,7 +18,7 @@ use Rattle.texts.proofs.Laid.{Within, Cut, located, from_start, from_within, fro
 -- a byte that starts a code point, and then bytes that go on with it
 abbrev Spelt : List ℕ → Type 0
 Spelt [] = ⊥
-Spelt (b ∷ bs) = (goes_on b ≡ false) × All (λ x. goes_on x ≡ true) bs
+Spelt (b ∷ bs) = (goes_on b ≡ false) × AllByRecursion (λ x. goes_on x ≡ true) bs
 
 starts_low : (b : ℕ) → b < 128 → goes_on b ≡ false
 starts_low b h = and_left _ _ (lt-leb 128 b h)

@@ -1,6 +1,6 @@
 -- Where the code points of a laid_out text stand. Assumes nothing.
 use Rattle.std.proofs.Common.{◌≡◌, ℕ, ◌+◌, ◌-◌, ◌<◌, ◌≤◌, Bool, true, false, cond, ◌&&◌, eqb, ltb, leb, List, [], ◌∷◌, ◌++◌, map, reverse, get_or, Some, None, filter, sym, refl, ap, ◌∙◌, subst, ⊎_elim, add-zero, add_assoc, zero-add, arith}
-use Rattle.std.specs.List.{slice_get, AllByRecursion as All}
+use Rattle.std.specs.List.{slice_get, AllByRecursion}
 use Rattle.std.proofs.lemmas.List.Elements.{filter-append}
 use Rattle.std.proofs.ByRecursion.{All-weaker, All-map}
 use Rattle.std.proofs.lemmas.List.{append-nil, append_assoc, reverse-append}
@@ -87,7 +87,7 @@ pub record Cut (w : ℕ → ℕ) (cs : List ℕ) (i j : ℕ) : Type 0 where
   pub last : j ≡ span w before + span w between
 
 module _ (w : ℕ → ℕ) (wide : (c : ℕ) → 1 ≤ w c) where
-  laid_within : (i : ℕ) (cs : List ℕ) → All (λ q. (i ≤ q.at) × (q.at < i + span w cs)) (laid w i cs)
+  laid_within : (i : ℕ) (cs : List ℕ) → AllByRecursion (λ q. (i ≤ q.at) × (q.at < i + span w cs)) (laid w i cs)
   laid_within i [] = tt
   laid_within i (c ∷ cs) = (
     (omega arith, omega (arith, wide c)),
