@@ -1,22 +1,26 @@
 // A mark keeps what a stream may go back to, until it is given back.
-ghost use Rattle.std.specs.Prelude.{◌≡◌, ◌≤◌};
+ghost use Rattle.std.specs.Prelude.{◌≡◌, ◌≤◌, true};
 
 use refusals::Refusal;
 
 mod ledger;
 mod stacking;
 
-// A mark is made by a ledger and taken back by one, and a program cannot let it go: its `drop` asks for what nobody can
-// show.
+// A mark is made by a ledger and taken back by one, which spends it. A program cannot let it go before: its `drop` asks for
+// a spent mark, and nobody holds one.
 pub struct Mark {
     number: i32,
+    spent: bool,
 }
 
 impl Drop for Mark {
     fn drop(self)
-        requires never { ⊥ }
+        requires spent { self.spent ≡ true }
     {
-        let Mark { number: _ } = self;
+        let Mark {
+            number: _,
+            spent: _,
+        } = self;
     }
 }
 

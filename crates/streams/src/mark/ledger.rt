@@ -15,9 +15,10 @@ impl Mark {
         self.number
     }
 
-    // A mark that came back is no more.
+    // A mark that came back is spent, and is let go.
     pub(crate) fn spend(self) {
-        let Mark { number: _ } = self;
+        let mut mark = self;
+        mark.spent = true;
     }
 }
 
@@ -52,7 +53,10 @@ impl Marks {
         }
         let number = numbered(self.numbering, self.out);
         self.out += 1;
-        Ok(Mark { number })
+        Ok(Mark {
+            number,
+            spent: false,
+        })
     }
 
     // The latest mark comes back; any other is handed back.

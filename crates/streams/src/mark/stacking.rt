@@ -63,6 +63,9 @@ impl Pile {
         }
         self.len -= 1;
         let number = numbered(self.numbering, self.len);
-        Some(Mark { number })
+        Some(Mark {
+            number,
+            spent: false,
+        })
     }
 }
