@@ -94,7 +94,7 @@ written-leaves written-more y-is z-is
 
 # Names that become others.
 OTHERS = {
-    'getD-stamps': 'slice_index_or_stamps',
+    'getD-stamps': 'get_or_stamps',
     'Made-so': 'made_so',
 }
 

@@ -7,7 +7,7 @@ use Rattle.tokens.specs.declared.token.Token.{Token}
 use Rattle.streams.specs.Streams.{Status}
 use Rattle.windows.specs.Lists.{stamps, blank}
 use Rattle.windows.specs.Windows.{View}
-use Rattle.windows.proofs.Stamps.{slice_index_or_stamps}
+use Rattle.windows.proofs.Stamps.{get_or_stamps}
 use Rattle.token_streams.specs.Unbuffered.{Unbuffered, token_at, reach, clamped}
 use Rattle.token_streams.specs.Calls.{open_answer, opened_with, looked, get, consume, la, seek, index_of, size_of, mark_of, release_of, text}
 use Rattle.token_streams.specs.Shown.{Together}
@@ -49,7 +49,7 @@ of_count list (refuses n) = tt
 
 of_place : (list : List Token) (i : ℕ) → i < length list → OfList list (token (Some (get_or (stamps 0 list) i blank)))
 of_place list i h =
-    let at : upward (get_or (stamps 0 list) i blank).index ≡ i = ap (λ k. upward k.index) (slice_index_or_stamps list i 0 blank h) ∙ omega arith in
+    let at : upward (get_or (stamps 0 list) i blank).index ≡ i = ap (λ k. upward k.index) (get_or_stamps list i 0 blank h) ∙ omega arith in
     (omega (arith, at), ap (λ n. get_or (stamps 0 list) n blank) (sym at))
 
 module _ (u : Unbuffered) (v : View) (coming : List Token) (texts : Token → List ℕ) (cursor : ℕ) (before : Token) (status : Status) (t : Together u v coming texts cursor before status) where

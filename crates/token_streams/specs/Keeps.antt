@@ -8,7 +8,7 @@ use Rattle.tokens.specs.Tokens.{same, is_eof, ends}
 use Rattle.streams.specs.Streams.{Symbol, Status, Stream, Rising, Lawful, minus_one, last_of, ahead, sliding, resting}
 use Rattle.windows.specs.Lists.{stamps, blank}
 use Rattle.windows.specs.Windows.{View}
-use Rattle.windows.proofs.Stamps.{length_stamps, slice_index_or_stamps}
+use Rattle.windows.proofs.Stamps.{length_stamps, get_or_stamps}
 use Rattle.token_streams.specs.Unbuffered.{Unbuffered, tokens, token_at}
 use Rattle.token_streams.specs.Shown.{Together}
 use Rattle.token_streams.specs.Symbols.{symbol, stream_of, SymbolsOf}
@@ -35,7 +35,7 @@ module _ (u : Unbuffered) where
       ∙ get_or-map symbol (tokens u) i blank d (omega (arith, length_stamps 0 u.feed.list))
 
   pub index_at : (i : ℕ) → i < length u.feed.list → (symbol (token_at u i)).index ≡ i
-  index_at i h = ap (λ k. (symbol k).index) (slice_index_or_stamps u.feed.list i 0 blank h) ∙ omega arith
+  index_at i h = ap (λ k. (symbol k).index) (get_or_stamps u.feed.list i 0 blank h) ∙ omega arith
 
 pub lawful : (u : Unbuffered) (v : View) (coming : List Token) (text : Token → List ℕ) (cursor : ℕ) (before : Token) (status : Status) → Together u v coming text cursor before status → Lawful (stream_of u)
 lawful u v coming text cursor before status t =
