@@ -1,5 +1,5 @@
 // The marks of one stream: made, and taken back the latest first.
-ghost use Rattle.std.specs.Prelude.{◌≡◌, ◌≤◌, ◌==◌};
+ghost use Rattle.std.specs.Prelude.{◌≡◌, ◌≤◌, ◌==◌, false, IfOk, IfErr};
 ghost use Rattle.streams.specs.Marks.{numbered, numbers, latest, marking, after_marking, releasing, after_releasing, made, released, HandedBack};
 
 use crate::mark::{Kept, Mark, Marks, Numbering};
@@ -47,6 +47,7 @@ impl Marks {
         ensures value { made result ≡ marking (numbers self.old.numbering self.old.out) (numbered self.old.numbering self.old.out) }
         ensures after { numbers self.new.numbering self.new.out ≡ after_marking (numbers self.old.numbering self.old.out) (numbered self.old.numbering self.old.out) }
         ensures numbering { self.new.numbering ≡ self.old.numbering }
+        ensures unspent { IfOk result (λ m. m.spent ≡ false) }
     {
         if self.out >= MOST_MARKS {
             return Err(Refusal::MarksUsedUp);
@@ -65,6 +66,7 @@ impl Marks {
         ensures back { HandedBack mark.number result }
         ensures after { numbers self.new.numbering self.new.out ≡ after_releasing (numbers self.old.numbering self.old.out) mark.number }
         ensures numbering { self.new.numbering ≡ self.old.numbering }
+        ensures unspent { IfErr result (λ k. k.mark.spent ≡ mark.spent) }
     {
         if !self.is_latest(&mark) {
             return Err(Kept {

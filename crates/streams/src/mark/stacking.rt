@@ -1,5 +1,5 @@
 // A pile of marks.
-ghost use Rattle.std.specs.Prelude.{◌≡◌, suc, ◌-◌};
+ghost use Rattle.std.specs.Prelude.{◌≡◌, suc, ◌-◌, false, IfSome, IfErr};
 ghost use Rattle.std.specs.Option.{option_map};
 ghost use Rattle.refusals.specs.Answers.{if_given};
 ghost use Rattle.streams.specs.Marks.{top, piling, released, HandedBack};
@@ -34,6 +34,7 @@ impl Pile {
         ensures back { HandedBack mark.number result }
         ensures after { self.new.len ≡ if_given (piling self.old.numbering self.old.len mark.number) (suc self.old.len) self.old.len }
         ensures numbering { self.new.numbering ≡ self.old.numbering }
+        ensures unspent { IfErr result (λ k. k.mark.spent ≡ mark.spent) }
     {
         if self.len >= MOST_MARKS {
             return Err(Kept {
@@ -57,6 +58,7 @@ impl Pile {
         ensures value { option_map (λ m. m.number) result ≡ top self.old.numbering self.old.len }
         ensures after { self.new.len ≡ self.old.len - 1 }
         ensures numbering { self.new.numbering ≡ self.old.numbering }
+        ensures unspent { IfSome result (λ m. m.spent ≡ false) }
     {
         if self.len == 0 {
             return None;

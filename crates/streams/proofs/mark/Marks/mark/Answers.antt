@@ -14,4 +14,5 @@ returns c =
       value = ap gives (to_z-of_z w32 c.numbered-number.result fits ∙ c.numbered-number.ensures.value) ∙ mark_given self.numbering self.out (numbered self.numbering self.out) few;
       after = numbers_more self.numbering self.out few;
       numbering = refl;
+      unspent = refl;
     }

@@ -12,4 +12,5 @@ returns c =
       back = tt;
       after = numbers_less self.numbering self.out c.args.mark.number taken;
       numbering = refl;
+      unspent = tt;
     }
