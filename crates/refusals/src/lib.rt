@@ -1,55 +1,41 @@
-// The refusals: what a call answers when it cannot do what was asked.
+// The refusals: what a call answers when it cannot do what was asked. Each has the number that stands for it in every output.
 #![tactic(auto)]
 
-ghost use Rattle.std.specs.Prelude.{◌≡◌};
+ghost use Rattle.std.specs.Prelude.{◌≡◌, Some};
 ghost use Rattle.refusals.specs.Numbers.{number, meaning};
+
+use std::error::Error;
+use std::fmt;
 
 #[derive(Clone, Copy, PartialEq, Eq, Debug)]
 pub enum Refusal {
-    ZeroOffset,
-    EndOfStream,
-    WindowFull,
-    Dropped,
-    Negative,
-    NotHeld,
-    WrongMark,
-    MarksUsedUp,
-    NotOpen,
-    Capacity,
-    BadText,
-    TooLong,
-    BadInterval,
-    ShortOutput,
-    BadList,
-    AlreadyOpen,
+    ZeroOffset = 1,
+    EndOfStream = 2,
+    WindowFull = 3,
+    Dropped = 4,
+    Negative = 5,
+    NotHeld = 6,
+    WrongMark = 7,
+    MarksUsedUp = 8,
+    NotOpen = 9,
+    Capacity = 10,
+    BadText = 11,
+    TooLong = 12,
+    BadInterval = 13,
+    ShortOutput = 14,
+    BadList = 15,
+    AlreadyOpen = 16,
 }
 
 impl Refusal {
-    // The number that stands for the refusal in every output.
+    // The number of the refusal.
     pub fn number(self) -> u8
         ensures value { result ≡ number self }
     {
-        match self {
-            Refusal::ZeroOffset => 1,
-            Refusal::EndOfStream => 2,
-            Refusal::WindowFull => 3,
-            Refusal::Dropped => 4,
-            Refusal::Negative => 5,
-            Refusal::NotHeld => 6,
-            Refusal::WrongMark => 7,
-            Refusal::MarksUsedUp => 8,
-            Refusal::NotOpen => 9,
-            Refusal::Capacity => 10,
-            Refusal::BadText => 11,
-            Refusal::TooLong => 12,
-            Refusal::BadInterval => 13,
-            Refusal::ShortOutput => 14,
-            Refusal::BadList => 15,
-            Refusal::AlreadyOpen => 16,
-        }
+        self as u8
     }
 
-    // The words for a person to read.
+    // The words for a person to read, which `Display` prints.
     pub fn word(self) -> &'static str
         ensures value { result.now ≡ meaning self }
     {
@@ -73,3 +59,13 @@ impl Refusal {
         }
     }
 }
+
+impl fmt::Display for Refusal {
+    ghost output = { λ r. Some (meaning r) };
+
+    fn fmt<W: fmt::Write>(&self, f: &mut fmt::Formatter<W>) -> fmt::Result {
+        f.write_str(self.word())
+    }
+}
+
+impl Error for Refusal {}
