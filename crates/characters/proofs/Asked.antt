@@ -1,28 +1,32 @@
 -- Signed positions and steps, read as natural numbers. Assumes nothing.
-use Rattle.std.proofs.Common.{◌≡◌, ℕ, zero, suc, ◌≤◌, Bool, true, false, cond, ltb, ℤ, pos, negsuc, neg_ℤ, nat_abs, Some, None, Option, sym, refl, ap, ◌∙◌, arith}
+use Rattle.std.proofs.Common.{◌≡◌, ℕ, zero, suc, ◌≤◌, Bool, true, false, cond, ltb, ℤ, pos, negsuc, neg_ℤ, nat_abs, Some, None, Option, Ok, Err, Result, sym, refl, ap, ◌∙◌, arith}
 use lib.Signed.{lt_z}
+use Rattle.std.specs.Int.{FitsUnsignedBits}
 use Rattle.std.specs.Option.{option_map}
+use Rattle.std.specs.Result.{OkIff, result_ok}
 use Rattle.std.proofs.lemmas.Bool.{le-ltb, ltb-true, ltb-false, true≢false}
 use Rattle.characters.specs.Text.{Text, Lawful, on, back}
 use Rattle.characters.specs.Signed.{moved, offset, Returns}
 use Rattle.characters.proofs.Starts.{on_within, back_within, on_and_back}
 
-pub natural : (z : ℤ) → lt_z z (pos 0) ≡ false → z ≡ pos (nat_abs z)
-natural (pos n) h = refl
-natural (negsuc n) h = absurd (true≢false h)
+-- a number that fits is the position that it was made into
+pub made : {E : Type 0} (r : Result ℕ E) (z : ℤ) (from : ℕ) → OkIff r (FitsUnsignedBits 64 z) (nat_abs z) → Some from ≡ result_ok r → z ≡ pos from
+made (Ok x) (pos n) from h e = ap pos (cc (h.1))
+made (Ok x) (negsuc n) from h e = absurd h.0
+made (Err _) z from h e = let z : ◌≡◌ {A = ℕ} 0 1 = cc in absurd (omega arith)
 
--- what a walk of so many steps gives, where the numbers are known up to the way they were passed
-pub steps_on : (t : Text) (i j n : ℕ) (k l : ℤ) (r : Option ℕ) → j ≡ i → l ≡ k → n ≡ nat_abs l → lt_z l (pos 0) ≡ false → r ≡ on t j n → r ≡ moved t i k
-steps_on t i j n k l r e f m h o = o ∙ ap (on t j) m ∙ go l h ∙ ap (moved t j) f ∙ ap (λ i. moved t i k) e
+-- what a walk of so many steps gives, where the number of steps is known up to the way it was passed
+pub steps_on : (t : Text) (i n : ℕ) (k l : ℤ) (r : Option ℕ) → l ≡ k → n ≡ nat_abs l → lt_z l (pos 0) ≡ false → r ≡ on t i n → r ≡ moved t i k
+steps_on t i n k l r f m h o = o ∙ ap (on t i) m ∙ go l h ∙ ap (moved t i) f
   where
-    go : (l : ℤ) → lt_z l (pos 0) ≡ false → on t j (nat_abs l) ≡ moved t j l
+    go : (l : ℤ) → lt_z l (pos 0) ≡ false → on t i (nat_abs l) ≡ moved t i l
     go (pos n) h = refl
     go (negsuc n) h = absurd (true≢false h)
 
-pub steps_back : (t : Text) (i j n : ℕ) (k l : ℤ) (r : Option ℕ) → j ≡ i → l ≡ k → n ≡ nat_abs l → lt_z l (pos 0) ≡ true → r ≡ back t j n → r ≡ moved t i k
-steps_back t i j n k l r e f m h o = o ∙ ap (back t j) m ∙ go l h ∙ ap (moved t j) f ∙ ap (λ i. moved t i k) e
+pub steps_back : (t : Text) (i n : ℕ) (k l : ℤ) (r : Option ℕ) → l ≡ k → n ≡ nat_abs l → lt_z l (pos 0) ≡ true → r ≡ back t i n → r ≡ moved t i k
+steps_back t i n k l r f m h o = o ∙ ap (back t i) m ∙ go l h ∙ ap (moved t i) f
   where
-    go : (l : ℤ) → lt_z l (pos 0) ≡ true → back t j (nat_abs l) ≡ moved t j l
+    go : (l : ℤ) → lt_z l (pos 0) ≡ true → back t i (nat_abs l) ≡ moved t i l
     go (pos n) h = absurd (omega (arith, ltb-true n 0 h))
     go (negsuc n) h = refl
 

@@ -1,9 +1,11 @@
 -- An interval that the check grants has two starts for its ends. Assumes nothing.
-use Rattle.std.proofs.Common.{◌≡◌, ℕ, ◌+◌, ◌≤◌, Bool, true, false, cond, ◌||◌, ltb, ℤ, pos, negsuc, ◌+ℤ◌, sym, refl, ap, ◌∙◌, ⊎_elim, arith}
+use Rattle.std.proofs.Common.{◌≡◌, ℕ, ◌+◌, ◌≤◌, Ok, Err, Result, Bool, true, false, cond, ◌||◌, ltb, ℤ, pos, negsuc, ◌+ℤ◌, sym, refl, ap, ◌∙◌, ⊎_elim, arith}
 use Rattle.std.proofs.lemmas.Int.{ints}
 use lib.Signed.{lt_z}
 use Rattle.std.proofs.lemmas.Bool.{and_from, and_cases, or_parts, not-false, ltb-false, le-leb, eq-eqb, eqb-true, cases_lt}
-use Rattle.refusals.specs.Answers.{Answer, gives, unless, if_given}
+use Rattle.std.specs.Result.{is_ok}
+use Rattle.refusals.specs.declared.Refusal.{Refusal}
+use Rattle.refusals.specs.Answers.{Answer, gives, answer, unless, if_given}
 use Rattle.characters.specs.Text.{Text, Lawful, empty, start_from, inside, cuts, part}
 use Rattle.characters.specs.Signed.{upward, past, backward, interval_check, interval}
 use Rattle.characters.proofs.Starts.{start_from_within, start_from_above, start_from_start, size_start}
@@ -12,6 +14,11 @@ use Rattle.characters.proofs.Starts.{start_from_within, start_from_above, start_
 granted : {A : Type 0} (b : Bool) (n : ℕ) (follows : Answer A) (v : A) → unless b n follows ≡ gives v → (b ≡ false) × (follows ≡ gives v)
 granted true n follows v e = let z : ◌≡◌ {A = ℕ} 0 1 = cc in absurd (omega arith)
 granted false n follows v e = (refl, e)
+
+-- a call that went well granted what it was asked
+pub is_granted : (r : Result (Unit {0}) Refusal) → is_ok r ≡ true → gives tt ≡ answer r
+is_granted (Ok u) e = refl
+is_granted (Err r) e = let z : ◌≡◌ {A = ℕ} 0 1 = cc in absurd (omega arith)
 
 -- an interval that does not run backward ends no earlier than it starts
 pub ordered : (start stop : ℤ) → backward start stop ≡ false → upward start ≤ past stop

@@ -1,5 +1,5 @@
 -- Steps over the starts of a text. Assumes nothing.
-use Rattle.std.proofs.Common.{◌≡◌, ℕ, zero, suc, ◌+◌, ◌-◌, ◌<◌, ◌≤◌, ltb, leb, ◌⊎◌, List, [], ◌∷◌, ◌++◌, map, reverse, length, get_or, Some, None, filter, Option, sym, refl, ap, ◌∙◌, subst, inl, inr, ⊎_elim, add-one, arith, length-append}
+use Rattle.std.proofs.Common.{◌≡◌, ℕ, zero, suc, ◌+◌, ◌<◌, ◌≤◌, ltb, leb, ◌⊎◌, List, [], ◌∷◌, ◌++◌, map, reverse, length, get_or, Some, None, filter, Option, sym, refl, ap, ◌∙◌, subst, inl, inr, ⊎_elim, add-one, arith, length-append}
 use Rattle.std.specs.List.{slice_get, AllByRecursion}
 use Rattle.std.proofs.lemmas.List.Elements.{filter-append}
 use Rattle.std.proofs.ByRecursion.{all_kept_by}
@@ -161,24 +161,18 @@ module _ (t : Text) (ok : Lawful t) where
           let first = ap (λ l. slice_get l 0) (ap reverse f ∙ reverse-append (filter (λ s. ltb s p) (starts t)) (p ∷ [])) in
           let z : ◌≡◌ {A = ℕ} 0 1 = cc (sym e ∙ first) in omega arith
 
-  -- the same for a loop that counts down
-  pub on_step : (i n : ℕ) → 0 < n → i < t.size → on t i n ≡ on t (start_from t (i + 1)) (n - 1)
-  on_step i zero l h = absurd (omega arith)
-  on_step i (suc n) l h =
-      let same : suc n - 1 ≡ n = omega arith in
-      on_more i n h ∙ ap (λ s. on t (start_from t s) n) (sym (add-one i)) ∙ ap (on t (start_from t (i + 1))) (sym same)
+  -- the same where the steps that are left are counted otherwise
+  pub on_step : (i n m : ℕ) → n ≡ suc m → i < t.size → on t i n ≡ on t (start_from t (i + 1)) m
+  on_step i n m e h = ap (on t i) e ∙ on_more i m h ∙ ap (λ s. on t (start_from t s) m) (sym (add-one i))
 
-  pub on_stop : (i n : ℕ) → 0 < n → t.size ≤ i → on t i n ≡ None
-  on_stop i zero l h = absurd (omega arith)
-  on_stop i (suc n) l h = on_none i n h
+  pub on_stop : (i n m : ℕ) → n ≡ suc m → t.size ≤ i → on t i n ≡ None
+  on_stop i n m e h = ap (on t i) e ∙ on_none i m h
 
-  pub back_step : (i q n : ℕ) → 0 < n → back t i 1 ≡ Some q → back t i n ≡ back t q (n - 1)
-  back_step i q zero l e = absurd (omega arith)
-  back_step i q (suc n) l e = let same : suc n - 1 ≡ n = omega arith in back_more i q n e ∙ ap (back t q) (sym same)
+  pub back_step : (i q n m : ℕ) → n ≡ suc m → back t i 1 ≡ Some q → back t i n ≡ back t q m
+  back_step i q n m e h = ap (back t i) e ∙ back_more i q m h
 
-  pub back_stop : (i n : ℕ) → 0 < n → back t i 1 ≡ None → back t i n ≡ None
-  back_stop i zero l e = absurd (omega arith)
-  back_stop i (suc n) l e = back_none i n e
+  pub back_stop : (i n m : ℕ) → n ≡ suc m → back t i 1 ≡ None → back t i n ≡ None
+  back_stop i n m e h = ap (back t i) e ∙ back_none i m h
 
   -- no start is past the size
   starts_within : AllByRecursion (λ s. s ≤ t.size) (starts t)

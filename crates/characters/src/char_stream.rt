@@ -21,14 +21,14 @@ pub struct CodePoint {
 pub fn upward(index: i32) -> usize
     ensures value { result ≡ upward index }
 {
-    if index < 0 { 0 } else { index as usize }
+    usize::try_from(index).unwrap_or(0)
 }
 
 // The least position that is above a number.
 pub fn past(index: i32) -> usize
     ensures value { result ≡ past index }
 {
-    if index < 0 { 0 } else { index as usize + 1 }
+    usize::try_from(index).map_or(0, |at| at + 1)
 }
 
 // Whether a stop is below a start less one.
@@ -45,7 +45,8 @@ fn shown(code: u32) -> char
     char::from_u32(code).unwrap_or(char::REPLACEMENT_CHARACTER)
 }
 
-// Writes a character in UTF-8 over an output of just its length.
+// Writes a character in UTF-8 over an output of just its length. `encode_utf8` promises the text that it returns, and not what it
+// leaves in the bytes that it was given, so that text is copied.
 fn encode(c: char, out: &mut [u8])
     requires fits { length out.old ≡ len_utf8 c }
     ensures after { out.new ≡ encode c }
@@ -87,13 +88,8 @@ pub trait InputData: Sized {
     fn item(&self, index: i32) -> Option<i32>
         ensures value { result ≡ item (meaning self.now) index }
     {
-        if index < 0 {
-            return None;
-        }
-        match self.code_point(index as usize) {
-            Some(c) => Some(c.code as i32),
-            None => None,
-        }
+        let at = usize::try_from(index).ok()?;
+        self.code_point(at).map(|c| c.code as i32)
     }
 
     // Where this many starts on from a position lead.
@@ -101,13 +97,11 @@ pub trait InputData: Sized {
         ensures value { result ≡ on (meaning self.now) from steps }
     {
         let mut at = from;
-        let mut left = steps;
-        'walk: while left > 0 {
+        for _ in 0..steps {
             if at >= self.len() {
                 return None;
             }
             at = self.start_from(at + 1);
-            left -= 1;
         }
         Some(at)
     }
@@ -117,13 +111,8 @@ pub trait InputData: Sized {
         ensures value { result ≡ back (meaning self.now) from steps }
     {
         let mut at = from;
-        let mut left = steps;
-        'walk: while left > 0 {
-            let Some(start) = self.start_before(at) else {
-                return None;
-            };
-            at = start;
-            left -= 1;
+        for _ in 0..steps {
+            at = self.start_before(at)?;
         }
         Some(at)
     }
@@ -133,33 +122,24 @@ pub trait InputData: Sized {
         ensures value { result ≡ offset (meaning self.now) index item_offset }
         ensures returns { Returns (meaning self.now) index item_offset result }
     {
-        if index < 0 {
-            return None;
-        }
-        let from = index as usize;
+        let from = usize::try_from(index).ok()?;
         if from > self.len() {
             return None;
         }
         let steps = item_offset.unsigned_abs() as usize;
-        let reached = if item_offset < 0 {
+        let at = if item_offset < 0 {
             self.back(from, steps)
         } else {
             self.on(from, steps)
-        };
-        match reached {
-            Some(at) => Some(at as i32),
-            None => None,
-        }
+        }?;
+        Some(at as i32)
     }
 
     // Whether the text has the code points that start from `start` through `stop`.
     fn check_interval(&self, start: i32, stop: i32) -> Result<(), Refusal>
         ensures value { answer result ≡ interval_check (meaning self.now) start stop }
     {
-        if start < 0 {
-            return Err(Refusal::Negative);
-        }
-        let from = upward(start);
+        let from = usize::try_from(start).map_err(|_| Refusal::Negative)?;
         let past = past(stop);
         if past < from {
             return Err(Refusal::BadInterval);
@@ -177,13 +157,16 @@ pub trait InputData: Sized {
     fn interval(&self, start: i32, stop: i32) -> Self
         ensures value { meaning result ≡ interval (meaning self.now) start stop }
     {
-        match self.check_interval(start, stop) {
-            Ok(()) => self.part(upward(start), self.start_from(past(stop))),
-            Err(_) => self.part(1, 0),
+        if self.check_interval(start, stop).is_ok() {
+            self.part(upward(start), self.start_from(past(stop)))
+        } else {
+            // No two starts in order: the empty text.
+            self.part(1, 0)
         }
     }
 
-    // How many bytes the text takes in UTF-8.
+    // How many bytes the text takes in UTF-8. Each code point says where the next one starts: as an iterator, such a walk would take
+    // a struct with contracts of its own, longer than these lines.
     fn display_len(&self) -> usize
         ensures value { result ≡ length (display (meaning self.now)) }
     {
