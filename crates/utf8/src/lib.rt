@@ -9,7 +9,8 @@ ghost use Rattle.utf8.specs.Rfc3629.{Tail};
 
 use refusals::Refusal;
 
-const MOST_BYTES: usize = 65_536;
+// A text has at most so many bytes, and a text of larger units at most so many units.
+pub const MOST_BYTES: usize = 65_536;
 
 // Whether the bytes are a text that can be read: UTF-8, and at most 65,536 of them.
 pub fn check(bytes: &[u8]) -> Result<(), Refusal>
@@ -27,9 +28,7 @@ pub fn check(bytes: &[u8]) -> Result<(), Refusal>
             rest = after;
             continue;
         }
-        let Some((_, next)) = front(rest) else {
-            return Err(Refusal::BadText);
-        };
+        let (_, next) = front(rest).ok_or(Refusal::BadText)?;
         rest = next;
     }
     Ok(())
@@ -52,6 +51,7 @@ pub fn front(bytes: &[u8]) -> Option<(u32, &[u8])>
     }
 }
 
+// The longer forms have a function each: a slice pattern names the bytes of one length.
 fn two(bytes: &[u8]) -> Option<(u32, &[u8])>
     requires lead { IsInRange 0xC0 0xDF (slice_index bytes.now 0) }
     ensures cases { Front bytes.now result }
