@@ -1,17 +1,18 @@
 -- Where the code points of bytes in UTF-8 start. Assumes nothing.
-use Rattle.std.proofs.Common.{◌≡◌, ℕ, zero, suc, ◌+◌, ◌-◌, ◌/◌, ◌%◌, ◌<◌, ◌≤◌, true, false, cond, ◌&&◌, eqb, ltb, leb, List, [], ◌∷◌, ◌++◌, length, get_or, take, drop, Some, None, sym, refl, ap, ◌∙◌, ⊎_elim, add-zero, arith}
+use Rattle.std.proofs.Common.{◌≡◌, ℕ, zero, suc, ◌+◌, ◌-◌, ◌/◌, ◌%◌, ◌<◌, ◌≤◌, true, false, cond, ◌&&◌, eqb, ltb, leb, List, [], ◌∷◌, ◌++◌, length, get_or, take, drop, min, Some, None, Option, MatchOption, sym, refl, ap, ◌∙◌, ⊎_elim, add-zero, arith}
 use lib.Utf8.{scalar, scalars, encode, encodes, next}
 use Rattle.std.specs.Char.{len_utf8}
-use Rattle.std.specs.List.{AllByRecursion}
+use Rattle.std.specs.List.{AllByRecursion, prefix_len}
 use Rattle.std.specs.Str.{chars}
 use Rattle.std.proofs.ByRecursion.{All-get_or}
-use Rattle.std.proofs.lemmas.List.{length-append, length-take, length-drop, get_or-append-add, get_or_append_left, get_or-drop, drop_at, take_at}
-use Rattle.std.proofs.lemmas.Bool.{ltb-true, leb-true, le-leb, lt-leb, both_ways, and_left, and_right, and_from, and_parts, cond_both, cases_lt}
+use Rattle.std.proofs.lemmas.List.{length-append, length-take, length-take-le, get_or-take, length-drop, get_or-append-add, get_or_append_left, get_or-drop, drop_at, take_at}
+use Rattle.std.proofs.lemmas.Bool.{ltb-true, leb-true, le-leb, lt-leb, both_ways, and_left, and_right, and_from, and_parts, cond_both, cases_lt, cases_Bool}
+use Rattle.std.proofs.lemmas.List.Sums.{prefix_len-drop_yes, prefix_len-drop_no, prefix_len-drop_all}
 use Rattle.std.proofs.lemmas.Str.{length-encode, len_utf8_bounds, encode_same, encodes-append, chars-nil, chars-encodes}
 use Rattle.characters.specs.Text.{start_from, item_at, back, empty, cuts, part}
 use Rattle.utf8.specs.Reading.{Begins}
 use Rattle.texts.specs.Laid.{span, laid_out}
-use Rattle.texts.specs.Encoded.{encoded_text, goes_on}
+use Rattle.texts.specs.Encoded.{encoded_text, goes_on, AllGoOn}
 use Rattle.texts.specs.Keeps.{span_width}
 use Rattle.texts.proofs.Laid.{Within, Cut, located, from_start, from_within, from_past, item_start, item_within, item_past, back_within, back_first, back_past, cuts_split, part_cut}
 
@@ -179,6 +180,43 @@ module _ (bs : List ℕ) (enc : encodes (chars bs) ≡ bs) where
 
   pub back_none : (p : ℕ) → p ≡ 0 → back (encoded_text bs) p 1 ≡ None
   back_none p e = ap (λ q. back (encoded_text bs) q 1) e ∙ back_first len_utf8 wide (chars bs)
+
+  -- the bytes that go on from a position end where the first start is
+  going : (k p : ℕ) → p + k ≡ length bs → p + prefix_len goes_on (drop p bs) ≡ start_from (encoded_text bs) p
+  going zero p e = omega (arith, from_end p (omega arith), prefix_len-drop_all goes_on bs p (omega arith))
+  going (suc k) p e = ⊎_elim
+      (λ t. omega (arith, prefix_len-drop_yes goes_on bs p 0 (omega arith) t, going k (p + 1) (omega arith), from_on p (omega arith) t))
+      (λ f. omega (arith, prefix_len-drop_no goes_on bs p 0 (omega arith) f, from_here p (omega arith) f))
+      (cases_Bool (goes_on (get_or bs p 0)))
+
+  pub from_going_on : (p m : ℕ) → m ≡ min p (length bs) → m + prefix_len goes_on (drop m bs) ≡ start_from (encoded_text bs) p
+  from_going_on p m e = ⊎_elim
+      (λ l. let same : m ≡ p = omega arith in going (length bs - m) m (omega arith) ∙ ap (start_from (encoded_text bs)) same)
+      (λ l. going (length bs - m) m (omega arith) ∙ from_end m (omega arith) ∙ sym (from_end p l))
+      (cases_lt p (length bs))
+
+  -- back over bytes that go on, to the one that starts
+  down : (d i p : ℕ) → p ≡ i + 1 + d → p ≤ length bs → goes_on (get_or bs i 0) ≡ false → ((k : ℕ) → i + 1 ≤ k → k < p → goes_on (get_or bs k 0) ≡ true) → back (encoded_text bs) p 1 ≡ Some i
+  down zero i p e h f all = let next : p ≡ i + 1 = omega arith in ap (λ q. back (encoded_text bs) q 1) next ∙ back_here i (omega arith) f
+  down (suc d) i p e h f all =
+      let q = i + 1 + d in
+      let next : p ≡ q + 1 = omega arith in
+      ap (λ p. back (encoded_text bs) p 1) next ∙ (back_on q (omega arith) (all q (omega arith) (omega arith))).1 ∙ down d i q refl (omega arith) f (λ k l m. all k l (omega arith))
+
+  long : (p : ℕ) (part : List ℕ) → part ≡ take p bs → p ≤ length bs → length part ≡ p
+  long p part e h = ap length e ∙ length-take-le p bs h
+
+  within : (p : ℕ) (part : List ℕ) → part ≡ take p bs → p ≤ length bs → (k : ℕ) → k < p → get_or part k 0 ≡ get_or bs k 0
+  within p part e h k l = ap (λ l. get_or l k 0) e ∙ get_or-take p bs k 0 l
+
+  pub back_last : (p : ℕ) (part : List ℕ) (r : Option ℕ) → part ≡ take p bs → p ≤ length bs → MatchOption r (AllGoOn part 0) (λ i. (i < length part) × (goes_on (get_or part i 0) ≡ false) × AllGoOn part (i + 1)) → r ≡ back (encoded_text bs) p 1
+  back_last p part None e h all = ⊎_elim
+      (λ l. let first = sym (ap goes_on (within p part e h 0 l)) ∙ all 0 (omega arith) (omega (arith, long p part e h)) in absurd (omega (arith, (back_on 0 (omega arith) first).0)))
+      (λ l. sym (back_none p (omega arith)))
+      (cases_lt 0 p)
+  back_last p part (Some i) e h found =
+      let below : i < p = omega (arith, found.0, long p part e h) in
+      sym (down (p - (i + 1)) i p (omega arith) h (sym (ap goes_on (within p part e h i below)) ∙ found.1) (λ k l m. sym (ap goes_on (within p part e h k m)) ∙ found.2 k l (omega (arith, long p part e h))))
 
 pub rest_fits : (bs : List ℕ) (p c : ℕ) (rest : List ℕ) → Begins (drop p bs) c rest → length rest ≤ length bs
 rest_fits bs p c rest b = omega (arith, length-drop p bs, ap length b.whole, length-append (encode c) rest)

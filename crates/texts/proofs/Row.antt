@@ -1,7 +1,11 @@
 -- Texts of units, which have one code point at each position. Assumes nothing.
-use Rattle.std.proofs.Common.{◌≡◌, ℕ, zero, suc, ◌+◌, ◌-◌, ◌<◌, ◌≤◌, min, false, cond, ◌&&◌, leb, ◌⊎◌, List, [], ◌∷◌, ◌++◌, map, length, get_or, take, drop, Some, None, sym, refl, ap, ◌∙◌, ⊎_elim, arith}
+use Rattle.std.proofs.Common.{◌≡◌, ℕ, zero, suc, ◌+◌, ◌-◌, ◌<◌, ◌≤◌, min, false, cond, ◌&&◌, leb, ◌⊎◌, List, [], ◌∷◌, ◌++◌, map, length, get_or, take, drop, Some, None, Option, sym, refl, ap, ◌∙◌, ⊎_elim, arith}
 use Rattle.std.proofs.lemmas.List.{length-map, length-take-le, length-drop, take-append-drop, drop_more, take-map, map-append, get_or-map}
-use Rattle.std.proofs.lemmas.Bool.{cases_lt, lt-leb, and_left, and_right, cond-false}
+use Rattle.std.proofs.lemmas.Bool.{cases_lt, lt-leb, le-leb, and_left, and_right, cond-false}
+use Rattle.std.specs.Bool.{then_some}
+use Rattle.std.specs.Borrow.{Bor}
+use Rattle.std.specs.Option.{SomeIff, unwrap_or}
+use Rattle.std.specs.Slice.{IsGetRangeResult}
 use Rattle.characters.specs.Text.{Lawful, empty, item_at, start_from, on, back, cuts, part}
 use Rattle.characters.proofs.Starts.{on_more, on_none, back_more, back_none, back_step}
 use Rattle.texts.specs.Laid.{span}
@@ -87,6 +91,12 @@ module _ {A : Type 0} (number : A → ℕ) (units : List A) where
     row_on_none (suc k) p some h =
         ⊎_elim (λ l. one_on p k l ∙ row_on_none k (suc p) (omega arith) (omega arith)) (λ l. on_none (row_of number units) ok p k (omega (arith, row_size))) (cases_lt p (length units))
 
+    pub row_on_tested : (steps p : ℕ) → 0 < steps → then_some (leb (p + steps) (length units)) (p + steps) ≡ on (row_of number units) p steps
+    row_on_tested steps p some = ⊎_elim
+        (λ l. ap (λ b. then_some b (p + steps)) (lt-leb (p + steps) (length units) l) ∙ sym (row_on_none steps p some l))
+        (λ l. ap (λ b. then_some b (p + steps)) (le-leb (p + steps) (length units) l) ∙ sym (row_on steps p l))
+        (cases_lt (length units) (p + steps))
+
     one_back : (p k : ℕ) → p < length units → back (row_of number units) (suc p) (suc k) ≡ back (row_of number units) p k
     one_back p k l = let same : suc p - 1 ≡ p = omega arith in back_more (row_of number units) ok (suc p) p k (row_back (suc p) (omega arith) (omega arith) ∙ ap Some same)
 
@@ -103,7 +113,7 @@ module _ {A : Type 0} (number : A → ℕ) (units : List A) where
 
     -- the first step back from past the end is to the end
     back_in : (steps p : ℕ) → 0 < steps → length units < p → back (row_of number units) p steps ≡ back (row_of number units) (length units) (steps - 1)
-    back_in steps p some l = back_step (row_of number units) ok p (length units) steps some (row_back_past p l)
+    back_in steps p some l = back_step (row_of number units) ok p (length units) steps (steps - 1) (omega arith) (row_back_past p l)
 
     -- so a position past the end counts as the one after it
     pub row_back_steps : (steps p : ℕ) → 0 < steps → steps ≤ min p (length units + 1) → back (row_of number units) p steps ≡ Some (min p (length units + 1) - steps)
@@ -114,6 +124,12 @@ module _ {A : Type 0} (number : A → ℕ) (units : List A) where
 
     pub row_back_short : (steps p : ℕ) → 0 < steps → min p (length units + 1) < steps → back (row_of number units) p steps ≡ None
     row_back_short steps p some h = ⊎_elim (λ l. back_in steps p some l ∙ back_short (steps - 1) (length units) (omega arith) (omega arith)) (λ l. back_short steps p l (omega arith)) (cases_lt (length units) p)
+
+    pub row_back_checked : (steps p m : ℕ) (r : Option ℕ) → 0 < steps → m ≡ min p (length units + 1) → SomeIff r (steps ≤ m) (m - steps) → r ≡ back (row_of number units) p steps
+    row_back_checked steps p m None some e h = ⊎_elim (λ l. sym (row_back_short steps p some (omega arith))) (λ l. absurd (h l)) (cases_lt m steps)
+    row_back_checked steps p m (Some at) some e h =
+        let reached : at ≡ min p (length units + 1) - steps = omega arith in
+        ap Some reached ∙ sym (row_back_steps steps p some (omega arith))
 
   -- two positions in order cut the row
   unfoldable row_cut : (i j : ℕ) → i ≤ j → j ≤ length units → Cut (λ _. 1) (map (low number) units) i j
@@ -143,3 +159,8 @@ module _ {A : Type 0} (number : A → ℕ) (units : List A) where
 pub row_none : {A : Type 0} (number : A → ℕ) → row_of number [] ≡ empty
 unfolding row_of
 row_none number = refl
+
+-- what a range of the units gives, or none
+pub row_got : {A : Type 0} (number : A → ℕ) (units : List A) (i j : ℕ) (r : Option (Bor (List A))) (none : Bor (List A)) → IsGetRangeResult units i j r → none.now ≡ [] → row_of number (unwrap_or r none).now ≡ cond (cuts (row_of number units) i j) (part (row_of number units) i j) empty
+row_got number units i j None none h e = ap (row_of number) e ∙ row_none number ∙ sym (row_no_part number units i j h.0)
+row_got number units i j (Some x) none h e = ap (row_of number) h.0.2 ∙ sym (row_part number units i j h.0.0 h.0.1)

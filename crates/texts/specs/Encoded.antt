@@ -1,5 +1,5 @@
 -- Texts in UTF-8, where a code point starts at the first of its bytes. Assumes nothing.
-use Rattle.std.specs.Prelude.{◌≡◌, ℕ, ◌≤◌, Bool, true, ◌&&◌, List, length, nat_le}
+use Rattle.std.specs.Prelude.{◌≡◌, ℕ, ◌<◌, ◌≤◌, Bool, true, ◌&&◌, List, length, nat_le, slice_index}
 use Rattle.std.proofs.Math.Utf8.{scalars, encodes}
 use Rattle.std.specs.Char.{len_utf8}
 use Rattle.std.specs.Str.{chars}
@@ -14,6 +14,10 @@ encoded_text bytes = laid_out len_utf8 (chars bytes)
 -- a byte that goes on with a code point, where others start one
 abbrev pub goes_on : ℕ → Bool
 goes_on b = nat_le 0x80 b && nat_le b 0xBF
+
+-- from a place on, all bytes go on with code points
+abbrev pub AllGoOn : List ℕ → ℕ → Type 0
+AllGoOn bytes i = (k : ℕ) → i ≤ k → k < length bytes → goes_on (slice_index bytes k) ≡ true
 
 -- bytes that can be read: well formed, and not too many
 pub record Readable (bytes : List ℕ) : Type 0 where

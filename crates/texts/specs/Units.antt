@@ -1,5 +1,6 @@
 -- Texts of units that each hold one code point. Assumes nothing.
-use Rattle.std.specs.Prelude.{ℕ, ◌%◌, ◌^◌, Bool, true, not, ◌&&◌, List, [], ◌∷◌, map, length, nat_lt}
+use Rattle.std.specs.Prelude.{ℕ, ◌%◌, ◌^◌, Bool, not, List, map, length, nat_lt}
+use Rattle.std.specs.List.{list_all}
 use Rattle.refusals.specs.Answers.{Answer, gives, unless, if_given}
 use Rattle.characters.specs.Text.{Text, empty}
 use Rattle.texts.specs.Laid.{laid_out}
@@ -9,8 +10,7 @@ abbrev pub small : ℕ → Bool
 small n = nat_lt n (2 ^ 31)
 
 abbrev pub all_small : List ℕ → Bool
-all_small [] = true
-all_small (n ∷ ns) = small n && all_small ns
+all_small ns = list_all small ns
 
 -- whether units of these numbers are a text: 12 too long, 11 bad text
 abbrev pub units_check : List ℕ → Answer (Unit {0})

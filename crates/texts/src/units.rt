@@ -8,9 +8,9 @@ use characters::char_stream::{CodePoint, InputData};
 use refusals::Refusal;
 use std::alloc::AllocError;
 
-// A text has at most 65,536 units, and a code point at most 31 bits.
-const MOST_UNITS: usize = 65_536;
+const MOST_UNITS: usize = utf8::MOST_BYTES;
 
+// A code point has at most 31 bits.
 const CODE_LIMIT: u32 = 1 << 31;
 
 // A unit of text: a number.
@@ -51,6 +51,7 @@ pub struct Units<'a, T> {
     ghost few: { length units.now ≤ 65536 },
 }
 
+// By hand, since a generic struct with a ghost field cannot derive it.
 impl<'a, T> Clone for Units<'a, T> {
     ghost is_clone = { λ x y. y ≡ x };
 
@@ -88,12 +89,12 @@ impl<'a, T: Unit> Units<'a, T> {
     pub fn new(units: &'a [T]) -> Self
         ensures value { row_of T.Unit.number result.units.now ≡ units_text (map T.Unit.number units.now) }
     {
-        match Self::check(units) {
-            Ok(()) => Units { units },
-            Err(_) => Units {
-                units: &units[0..0],
-            },
-        }
+        let units = if Self::check(units).is_ok() {
+            units
+        } else {
+            &[]
+        };
+        Units { units }
     }
 }
 
@@ -101,12 +102,10 @@ impl<'a, T: Unit> Units<'a, T> {
 fn all_small<T: Unit>(units: &[T]) -> bool
     ensures value { result ≡ all_small (map T.Unit.number units.now) }
 {
-    for unit in units {
-        if unit.number() >= CODE_LIMIT {
-            return false;
-        }
-    }
-    true
+    units
+        .iter()
+        .map(|unit| unit.number())
+        .all(|number| number < CODE_LIMIT)
 }
 
 impl<'a, T: Unit> InputData for Units<'a, T> {
@@ -119,11 +118,8 @@ impl<'a, T: Unit> InputData for Units<'a, T> {
     }
 
     fn code_point(&self, at: usize) -> Option<CodePoint> {
-        if at >= self.units.len() {
-            return None;
-        }
         // The check has refused larger units, so that what is left of this one is its number.
-        let code = self.units[at].number() % CODE_LIMIT;
+        let code = self.units.get(at)?.number() % CODE_LIMIT;
         Some(CodePoint { code, next: at + 1 })
     }
 
@@ -132,13 +128,7 @@ impl<'a, T: Unit> InputData for Units<'a, T> {
     }
 
     fn start_before(&self, at: usize) -> Option<usize> {
-        if at == 0 {
-            None
-        } else if at <= self.units.len() {
-            Some(at - 1)
-        } else {
-            Some(self.units.len())
-        }
+        self.back(at, 1)
     }
 
     // Each position up to the length is a start, so that a number of steps is a distance.
@@ -146,12 +136,8 @@ impl<'a, T: Unit> InputData for Units<'a, T> {
         if steps == 0 {
             return Some(from);
         }
-        let len = self.units.len();
-        if from <= len && steps <= len - from {
-            Some(from + steps)
-        } else {
-            None
-        }
+        let at = from.checked_add(steps)?;
+        (at <= self.units.len()).then_some(at)
     }
 
     // From past the length, the first step back leads to the length.
@@ -159,19 +145,11 @@ impl<'a, T: Unit> InputData for Units<'a, T> {
         if steps == 0 {
             return Some(from);
         }
-        let at = from.min(self.units.len() + 1);
-        if steps <= at { Some(at - steps) } else { None }
+        from.min(self.units.len() + 1).checked_sub(steps)
     }
 
     fn part(&self, from: usize, to: usize) -> Self {
-        if from <= to && to <= self.units.len() {
-            Units {
-                units: &self.units[from..to],
-            }
-        } else {
-            Units {
-                units: &self.units[0..0],
-            }
-        }
+        let units = self.units.get(from..to).unwrap_or(&[]);
+        Units { units }
     }
 }

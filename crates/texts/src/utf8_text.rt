@@ -1,11 +1,12 @@
 // Texts in UTF-8, whose positions count bytes.
-ghost use Rattle.std.specs.Prelude.{◌≡◌, ◌≤◌, true, length};
+ghost use Rattle.std.specs.Prelude.{◌≡◌, ◌+◌, ◌<◌, ◌≤◌, true, false, length, MatchOption, slice_index};
 ghost use Rattle.std.proofs.Math.Utf8.{scalars, encodes};
+ghost use Rattle.std.specs.List.{prefix_len};
 ghost use Rattle.std.specs.Str.{chars};
 ghost use Rattle.refusals.specs.Answers.{answer};
 ghost use Rattle.characters.specs.Text.{cuts};
 ghost use Rattle.utf8.specs.Reading.{Checked};
-ghost use Rattle.texts.specs.Encoded.{encoded_text, goes_on, Reads};
+ghost use Rattle.texts.specs.Encoded.{encoded_text, goes_on, AllGoOn, Reads};
 ghost use Rattle.texts.specs.Keeps.{encoded_lawful};
 
 use characters::char_stream::{CodePoint, InputData};
@@ -32,12 +33,12 @@ impl<'a> Utf8Text<'a> {
     pub fn new(bytes: &'a [u8]) -> Self
         ensures value { Reads bytes.now (encoded_text result.bytes.now) }
     {
-        match utf8::check(bytes) {
-            Ok(()) => Utf8Text { bytes },
-            Err(_) => Utf8Text {
-                bytes: &bytes[0..0],
-            },
-        }
+        let bytes = if utf8::check(bytes).is_ok() {
+            bytes
+        } else {
+            &[]
+        };
+        Utf8Text { bytes }
     }
 
     // Whether two positions are starts in order.
@@ -52,7 +53,21 @@ impl<'a> Utf8Text<'a> {
 fn goes_on(byte: u8) -> bool
     ensures value { result ≡ goes_on byte }
 {
-    0x80 <= byte && byte <= 0xBF
+    matches!(byte, 0x80..=0xBF)
+}
+
+// How many bytes at the front go on with a code point.
+fn going_on(bytes: &[u8]) -> usize
+    ensures value { result ≡ prefix_len goes_on bytes.now }
+{
+    bytes.iter().take_while(|byte| goes_on(**byte)).count()
+}
+
+// The last place where a code point starts.
+fn last_start(bytes: &[u8]) -> Option<usize>
+    ensures value { MatchOption result (AllGoOn bytes.now 0) (λ i. (i < length bytes.now) × (goes_on (slice_index bytes.now i) ≡ false) × AllGoOn bytes.now (i + 1)) }
+{
+    bytes.iter().rposition(|byte| !goes_on(*byte))
 }
 
 impl<'a> InputData for Utf8Text<'a> {
@@ -65,57 +80,39 @@ impl<'a> InputData for Utf8Text<'a> {
     }
 
     fn code_point(&self, at: usize) -> Option<CodePoint> {
-        if at >= self.bytes.len() {
-            return None;
-        }
         // Most of a sheet is ASCII, which needs no further look.
-        let lead = self.bytes[at];
+        let lead = *self.bytes.get(at)?;
         if lead < 0x80 {
             return Some(CodePoint {
                 code: u32::from(lead),
                 next: at + 1,
             });
         }
-        match utf8::front(&self.bytes[at..]) {
-            Some((code, rest)) => Some(CodePoint {
-                code,
-                next: self.bytes.len() - rest.len(),
-            }),
-            None => None,
-        }
+        let (code, rest) = utf8::front(&self.bytes[at..])?;
+        Some(CodePoint {
+            code,
+            next: self.bytes.len() - rest.len(),
+        })
     }
 
     fn start_from(&self, at: usize) -> usize {
-        let mut start = at;
-        'on: while start < self.bytes.len() && goes_on(self.bytes[start]) {
-            start += 1;
-        }
-        start.min(self.bytes.len())
+        let start = at.min(self.bytes.len());
+        start + going_on(&self.bytes[start..])
     }
 
     fn start_before(&self, at: usize) -> Option<usize> {
-        if at == 0 {
-            return None;
-        }
         if at > self.bytes.len() {
             return Some(self.bytes.len());
         }
-        let mut start = at - 1;
-        'back: while goes_on(self.bytes[start]) {
-            start -= 1;
-        }
-        Some(start)
+        last_start(&self.bytes[..at])
     }
 
     fn part(&self, from: usize, to: usize) -> Self {
-        if self.cuts(from, to) {
-            Utf8Text {
-                bytes: &self.bytes[from..to],
-            }
+        let bytes = if self.cuts(from, to) {
+            &self.bytes[from..to]
         } else {
-            Utf8Text {
-                bytes: &self.bytes[0..0],
-            }
-        }
+            &[]
+        };
+        Utf8Text { bytes }
     }
 }

@@ -4,6 +4,7 @@
 use characters::char_stream::InputData;
 use refusals::Refusal;
 use std::alloc::{AllocError, Global};
+use std::iter::successors;
 use texts::utf8_text::Utf8Text;
 
 // The bytes that the words of a line give; a word that is no byte is an error.
@@ -18,39 +19,28 @@ fn bytes_of(heap: Global, words: &str) -> anyhow::Result<Vec<u8>> {
 // The code points of a text, each in hexadecimal after a space.
 fn codes_of(heap: Global, text: &Utf8Text) -> Result<String, AllocError> {
     let mut codes = String::new(heap);
-    let mut at = 0;
-    for _ in 0..text.len() {
-        let Some(point) = text.code_point(at) else {
-            break;
-        };
-        let code = point.code;
-        codes.push_str(format!(in heap; " {code:X}")?.as_str())?;
-        at = point.next;
+    let points = successors(text.code_point(0), |point| text.code_point(point.next));
+    for point in points.take(text.len()) {
+        write!(codes, " {:X}", point.code)?;
     }
     Ok(codes)
 }
 
 fn verdict(heap: Global, bytes: &[u8]) -> Result<String, AllocError> {
     match Utf8Text::check(bytes) {
-        Ok(()) => {
-            let codes = codes_of(heap, &Utf8Text::new(bytes))?;
-            format!(in heap; "ok{codes}")
-        }
-        Err(refusal) => {
-            let number = refusal.number();
-            format!(in heap; "REFUSED {number}")
-        }
+        Ok(()) => format!(in heap; "ok{}", codes_of(heap, &Utf8Text::new(bytes))?),
+        Err(refusal) => format!(in heap; "REFUSED {}", refusal.number()),
     }
 }
 
 // So many copies of a byte: only the verdict's first word is of use.
-fn verdict_of_many(heap: Global, byte: u8, count: usize) -> Result<String, AllocError> {
+fn verdict_of_many(heap: Global, byte: u8, count: usize) -> Result<&'static str, AllocError> {
     let bytes = vec![in heap; byte; count]?;
-    match Utf8Text::check(bytes.as_slice()) {
-        Ok(()) => String::from_str(heap, "ok"),
-        Err(Refusal::TooLong) => String::from_str(heap, "too long"),
-        Err(_) => String::from_str(heap, "refused otherwise"),
-    }
+    Ok(match Utf8Text::check(bytes.as_slice()) {
+        Ok(()) => "ok",
+        Err(Refusal::TooLong) => "too long",
+        Err(_) => "refused otherwise",
+    })
 }
 
 fn run(rt: &HostRuntime) -> anyhow::Result<()> {
@@ -59,8 +49,7 @@ fn run(rt: &HostRuntime) -> anyhow::Result<()> {
         let line = line?;
         if let Some((name, words)) = line.as_str().split_once(": ") {
             let bytes = bytes_of(heap, words)?;
-            let answer = verdict(heap, bytes.as_slice())?;
-            println!(rt; "{name}: {answer}")?;
+            println!(rt; "{name}: {}", verdict(heap, bytes.as_slice())?)?;
         }
     }
     let most = verdict_of_many(heap, 0x41, 65_536)?;

@@ -1,13 +1,19 @@
-use Rattle.std.proofs.Common.{◌≡◌, ℕ, ◌+◌, true, List, [], ◌∷◌, map, sym, refl, ap, ◌∙◌, subst, ⊎_elim, arith}
+use Rattle.std.proofs.Common.{◌≡◌, ℕ, ◌+◌, Ok, Err, Result, true, false, List, [], ◌∷◌, map, sym, refl, ap, ◌∙◌, subst, ⊎_elim, arith}
 use lib.Utf8.{scalars, encodes}
 use Rattle.std.specs.Char.{len_utf8 as width}
 use Rattle.std.specs.Str.{chars}
+use Rattle.std.specs.Result.{is_ok}
+use Rattle.std.proofs.lemmas.Bool.{true≢false}
+use Rattle.refusals.specs.Answers.{answer}
+use Rattle.refusals.specs.declared.Refusal.{Refusal}
+use Rattle.utf8.specs.Reading.{Checked, Decoded}
+use Rattle.utf8.specs.Rfc3629.{Octets}
 use Rattle.characters.specs.Text.{codes}
 use Rattle.texts.specs.Laid.{laid}
 use Rattle.texts.specs.Encoded.{Readable, encoded_text}
 use Rattle.texts.proofs.Encoded.{Fit, none_fit, none_text}
 use Rattle.texts.proofs.utf8_text.Utf8Text.new.Goals as goal
-use Rattle.texts.proofs.utf8_text.Utf8Text.new.Goals.{in-Ok, in-Err}
+use Rattle.texts.proofs.utf8_text.Utf8Text.new.Goals.{then-is_ok, else-is_ok}
 
 -- the codes of a text that is laid out are those that were laid
 codes_laid : (width : ℕ → ℕ) (i : ℕ) (cs : List ℕ) → map (λ p. p.code) (laid width i cs) ≡ cs
@@ -19,16 +25,20 @@ decodings bytes f =
     let laid_codes = codes_laid width 0 (chars bytes) in
     (ap encodes laid_codes ∙ f.encoded, ap scalars laid_codes ∙ f.valid)
 
-fit : (c : goal.Joined-check) → Fit c.match-check.result.0.now
+-- what the check granted, or not
+granted : (bytes : List ℕ) (r : Result (Unit {0}) Refusal) → is_ok r ≡ true → Checked bytes (answer r) → Decoded bytes (answer r) → Fit bytes × Octets bytes
+granted bytes (Ok u) e h d = (record { few = h.0; encoded = d.0; valid = d.1 }, h.1)
+granted bytes (Err x) e h d = absurd (true≢false (sym e))
+
+refused : (bytes : List ℕ) (r : Result (Unit {0}) Refusal) → is_ok r ≡ false → Checked bytes (answer r) → Readable bytes → ⊥
+refused bytes (Ok u) e h readable = true≢false e
+refused bytes (Err x) e h readable = ⊎_elim (λ long. omega (arith, long.1, readable.few)) (λ bad. bad.2 readable.formed) h
+
+fit : (c : goal.Joined-is_ok) → Fit c.if-is_ok.bytes.now
 fit c =
-    elim c.match-check.branch [
-      | in-Ok w ↦
-          subst (λ r. Fit r.0.now) (sym w.result-is) (record {
-            few = w.in-Ok.ensures.checked.0;
-            encoded = w.in-Ok.ensures.decoded.0;
-            valid = w.in-Ok.ensures.decoded.1;
-          })
-      | in-Err w ↦ subst (λ r. Fit r.0.now) (sym w.result-is) none_fit
+    elim c.if-is_ok.branch [
+      | then-is_ok w ↦ subst (λ r. Fit r.now) (sym w.bytes-is) (granted c.args.bytes.now c.check.result (sym c.is_ok.ensures.value ∙ w.if-is_ok.true) c.check.ensures.checked c.check.ensures.decoded).0
+      | else-is_ok w ↦ subst (λ r. Fit r.now) (sym w.bytes-is) none_fit
     ]
 
 pub invariant_of-result : goal.invariant_of-result
@@ -38,20 +48,20 @@ pub returns : goal.returns
 returns c =
     record {
       value =
-          elim c.match-check.branch [
-            | in-Ok w ↦
-                let told = w.in-Ok.ensures in
+          elim c.if-is_ok.branch [
+            | then-is_ok w ↦
+                let told = granted c.args.bytes.now c.check.result (sym c.is_ok.ensures.value ∙ w.if-is_ok.true) c.check.ensures.checked c.check.ensures.decoded in
                 record {
-                  whole = λ _. ap (λ r. encoded_text r.0.now) w.result-is;
-                  decoded = λ _. subst (λ r. (encodes (codes (encoded_text r.0.now)) ≡ c.args.bytes.now) × (scalars (codes (encoded_text r.0.now)) ≡ true)) (sym w.result-is) (decodings c.args.bytes.now (record { few = told.checked.0; encoded = told.decoded.0; valid = told.decoded.1 }));
-                  else_empty = λ not. absurd (not (record { few = told.checked.0; formed = told.checked.1 }));
+                  whole = λ _. ap (λ r. encoded_text r.now) w.bytes-is;
+                  decoded = λ _. subst (λ r. (encodes (codes (encoded_text r.now)) ≡ c.args.bytes.now) × (scalars (codes (encoded_text r.now)) ≡ true)) (sym w.bytes-is) (decodings c.args.bytes.now told.0);
+                  else_empty = λ not. absurd (not (record { few = told.0.few; formed = told.1 }));
                 }
-            | in-Err w ↦
-                let refused : Readable c.args.bytes.now → ⊥ = λ readable. ⊎_elim (λ long. omega (arith, long.1, readable.few)) (λ bad. bad.2 readable.formed) w.in-Err.ensures.checked in
+            | else-is_ok w ↦
+                let none = refused c.args.bytes.now c.check.result (sym c.is_ok.ensures.value ∙ w.if-is_ok.false) c.check.ensures.checked in
                 record {
-                  whole = λ readable. absurd (refused readable);
-                  decoded = λ readable. absurd (refused readable);
-                  else_empty = λ _. ap (λ r. encoded_text r.0.now) w.result-is ∙ none_text;
+                  whole = λ readable. absurd (none readable);
+                  decoded = λ readable. absurd (none readable);
+                  else_empty = λ _. ap (λ r. encoded_text r.now) w.bytes-is ∙ none_text;
                 }
           ];
     }

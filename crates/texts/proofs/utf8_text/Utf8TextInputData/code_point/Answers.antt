@@ -1,47 +1,50 @@
-use Rattle.std.proofs.Common.{◌≡◌, ℕ, ◌+◌, ◌-◌, ◌<◌, List, ◌++◌, length, get_or, drop, Some, sym, ap, ◌∙◌, subst, arith, length-drop}
-use lib.Utf8.{scalar_cases, low_scalar}
+use Rattle.std.proofs.Common.{◌≡◌, ℕ, ◌+◌, ◌-◌, ◌<◌, List, [], ◌∷◌, ◌++◌, length, get_or, drop, take, Some, Option, sym, ap, ◌∙◌, subst, arith, length-drop}
+use lib.Utf8.{low_scalar}
+use Rattle.std.specs.Borrow.{Bor}
 use Rattle.std.proofs.lemmas.List.{take_rest, drop_more}
 use Rattle.std.proofs.lemmas.Str.{encode_ascii}
-use Rattle.utf8.specs.Reading.{Begins}
-use Rattle.texts.proofs.Encoded.{item_begins, next_begins, item_none, item_end, rest_fits}
+use Rattle.utf8.specs.Reading.{Begins, Front}
+use Rattle.texts.proofs.Encoded.{item_begins, next_begins, item_none, item_end}
 use Rattle.texts.proofs.utf8_text.Utf8TextInputData.code_point.Goals as goal
 
-pub returns-then-at-self : goal.returns-then-at-self
-returns-then-at-self c = record { value = sym (item_end c.args.self.now.bytes.now c.args.self.now.encoded c.args.at c.if-at-self.true); next = tt; small = tt }
+pub returns-in_err-lead-clause-value : goal.returns-in_err-lead-clause-value
+returns-in_err-lead-clause-value c = rw c.from_residual.ensures (sym (item_end c.args.self.now.bytes.now c.args.self.now.encoded c.args.at c.in_err-lead.ensures.lookup.3))
 
 -- an ASCII byte is a code point of its own
-pub returns-then-lead-lt128 : goal.returns-then-lead-lt128
-returns-then-lead-lt128 c =
+ascii : (bytes : List ℕ) (at lead : ℕ) → at < length bytes → lead ≡ get_or bytes at 0 → lead < 128 → Begins (drop at bytes) lead (drop (at + 1) bytes)
+ascii bytes at lead here e small = record { value = low_scalar lead (omega arith); whole = drop_more bytes at 0 here ∙ ap (λ l. l ++ drop (at + 1) bytes) (ap (λ b. b ∷ []) (sym e) ∙ sym (encode_ascii lead small)) }
+
+pub returns-then-lead-lt128-clause-value : goal.returns-then-lead-lt128-clause-value
+returns-then-lead-lt128-clause-value c =
     let bytes = c.args.self.now.bytes.now in
-    let at = c.args.at in
-    let lead = get_or bytes at 0 in
-    let here : at < length bytes = c.if-at-self.false in
-    let b : Begins (drop at bytes) lead (drop (at + 1) bytes) = record { value = low_scalar lead (omega arith); whole = drop_more bytes at 0 here ∙ ap (λ l. l ++ drop (at + 1) bytes) (sym (encode_ascii lead c.if-lead-lt128.true)) } in
-    let code : c.from.result ≡ lead = omega arith in
-    let next : at + 1 ≡ length bytes - length (drop (at + 1) bytes) = omega (arith, length-drop (at + 1) bytes) in
-    record {
-      value = ap Some code ∙ sym (item_begins bytes c.args.self.now.encoded at here _ _ b);
-      next = next ∙ sym (next_begins bytes c.args.self.now.encoded at here _ _ b);
-      small = omega arith;
-    }
+    let found = c.in_ok-lead.ensures.lookup in
+    ap Some c.from.ensures ∙ sym (item_begins bytes c.args.self.now.encoded c.args.at found.3.0 _ _ (ascii bytes c.args.at _ found.3.0 (found.4 (omega arith) 0) c.if-lead-lt128.true))
+
+pub returns-then-lead-lt128-clause-next : goal.returns-then-lead-lt128-clause-next
+returns-then-lead-lt128-clause-next c =
+    let bytes = c.args.self.now.bytes.now in
+    let found = c.in_ok-lead.ensures.lookup in
+    let here : c.args.at < length bytes = found.3.0 in
+    let next : c.args.at + 1 ≡ length bytes - length (drop (c.args.at + 1) bytes) = omega (arith, length-drop (c.args.at + 1) bytes) in
+    next ∙ sym (next_begins bytes c.args.self.now.encoded c.args.at here _ _ (ascii bytes c.args.at _ here (found.4 (omega arith) 0) c.if-lead-lt128.true))
 
 -- what `front` found, from the position on
-begins : (c : goal.In-Some) → Begins (drop c.args.at c.args.self.now.bytes.now) c.in-Some.code c.in-Some.rest.now
-begins c = subst (λ l. Begins l c.in-Some.code c.in-Some.rest.now) (take_rest c.args.self.now.bytes.now c.args.at) c.in-Some.ensures.cases
+begins : (bytes : List ℕ) (at code : ℕ) (rest : Bor (List ℕ)) (r : Option (ℕ × Bor (List ℕ))) → Front (take (length bytes - at) (drop at bytes)) r → r ≡ Some (code, rest) → Begins (drop at bytes) code rest.now
+begins bytes at code rest r f e = subst (λ l. Begins l code rest.now) (take_rest bytes at) (subst (Front (take (length bytes - at) (drop at bytes))) e f)
 
-pub overflow_sub-result : goal.overflow_sub-result
-overflow_sub-result c = rest_fits c.args.self.now.bytes.now c.args.at _ _ (begins c)
+pub returns-in_err-code-clause-value : goal.returns-in_err-code-clause-value
+returns-in_err-code-clause-value c =
+    let bytes = c.args.self.now.bytes.now in
+    let never : (code : ℕ) (rest : List ℕ) → Begins (drop c.args.at bytes) code rest → ⊥ =
+    λ code rest b. c.in_err-code.ensures.cases code rest (subst (λ l. Begins l code rest) (sym (take_rest bytes c.args.at)) b) in
+    rw c.from_residual-in_err-code.ensures (sym (item_none bytes c.args.self.now.encoded c.args.at c.in_ok-lead.ensures.lookup.3.0 c.args.self.now.valid never))
 
-pub returns-in-Some : goal.returns-in-Some
-returns-in-Some c =
-    record {
-      value = sym (item_begins c.args.self.now.bytes.now c.args.self.now.encoded c.args.at c.if-at-self.false _ _ (begins c));
-      next = sym (next_begins c.args.self.now.bytes.now c.args.self.now.encoded c.args.at c.if-at-self.false _ _ (begins c));
-      small = omega (arith, scalar_cases c.in-Some.code (begins c).value);
-    }
+pub returns-clause-value : goal.returns-clause-value
+returns-clause-value c =
+    let bytes = c.args.self.now.bytes.now in
+    sym (item_begins bytes c.args.self.now.encoded c.args.at c.in_ok-lead.ensures.lookup.3.0 _ _ (begins bytes c.args.at _ _ _ c.front.ensures.cases c.in_ok-code.was))
 
-pub returns-in-None : goal.returns-in-None
-returns-in-None c =
-    let never : (code : ℕ) (rest : List ℕ) → Begins (drop c.args.at c.args.self.now.bytes.now) code rest → ⊥ =
-    λ code rest b. c.in-None.ensures.cases code rest (subst (λ l. Begins l code rest) (sym (take_rest c.args.self.now.bytes.now c.args.at)) b) in
-    record { value = sym (item_none c.args.self.now.bytes.now c.args.self.now.encoded c.args.at c.if-at-self.false c.args.self.now.valid never); next = tt; small = tt }
+pub returns-clause-next : goal.returns-clause-next
+returns-clause-next c =
+    let bytes = c.args.self.now.bytes.now in
+    sym (next_begins bytes c.args.self.now.encoded c.args.at c.in_ok-lead.ensures.lookup.3.0 _ _ (begins bytes c.args.at _ _ _ c.front.ensures.cases c.in_ok-code.was))

@@ -10,18 +10,18 @@ use Rattle.texts.proofs.utf8_text.Utf8TextInputData.part.Goals.{then-cuts, else-
 held : (t : Utf8Text) → Fit t.bytes.now
 held t = record { few = t.few; encoded = t.encoded; valid = t.valid }
 
-pub slice_bounds-result-end : goal.slice_bounds-result-end
-slice_bounds-result-end c =
+pub slice_bounds-bytes-end : goal.slice_bounds-bytes-end
+slice_bounds-bytes-end c =
     let order = cut_order c.args.self.now.bytes.now c.args.from c.args.to c.args.self.now.encoded (sym c.if-cuts.ensures.value) in omega (arith, order.0, order.1)
 
-fit : (c : goal.Joined-cuts) → Fit c.if-cuts.result.0.now
+fit : (c : goal.Joined-cuts) → Fit c.if-cuts.bytes.now
 fit c =
     let bytes = c.args.self.now.bytes.now in
     elim c.if-cuts.branch [
       | then-cuts w ↦
           let cut = encoded_cut bytes c.args.from c.args.to (sym w.if-cuts.ensures.value) in
-          subst (λ r. Fit r.0.now) (sym w.result-is) (slice_fit bytes c.args.from c.args.to (held c.args.self.now) cut)
-      | else-cuts w ↦ subst (λ r. Fit r.0.now) (sym w.result-is) none_fit
+          subst (λ r. Fit r.now) (sym w.bytes-is) (slice_fit bytes c.args.from c.args.to (held c.args.self.now) cut)
+      | else-cuts w ↦ subst (λ r. Fit r.now) (sym w.bytes-is) none_fit
     ]
 
 pub invariant_of-result : goal.invariant_of-result
@@ -35,7 +35,7 @@ returns c =
           elim c.if-cuts.branch [
             | then-cuts w ↦
                 let cut = encoded_cut bytes c.args.from c.args.to (sym w.if-cuts.ensures.value) in
-                ap (λ r. encoded_text r.0.now) w.result-is ∙ sym (slice_text bytes c.args.from c.args.to (held c.args.self.now) cut)
-            | else-cuts w ↦ ap (λ r. encoded_text r.0.now) w.result-is ∙ none_text ∙ sym (cond-false _ _ _ (sym w.if-cuts.ensures.value))
+                ap (λ r. encoded_text r.now) w.bytes-is ∙ sym (slice_text bytes c.args.from c.args.to (held c.args.self.now) cut)
+            | else-cuts w ↦ ap (λ r. encoded_text r.now) w.bytes-is ∙ none_text ∙ sym (cond-false _ _ _ (sym w.if-cuts.ensures.value))
           ];
     }

@@ -1,18 +1,15 @@
-use Rattle.std.proofs.Common.{sym, ◌∙◌, arith}
-use Rattle.texts.proofs.Encoded.{from_on, from_here, from_end}
+use Rattle.std.proofs.Common.{drop, arith, length-drop}
+use Rattle.std.proofs.lemmas.List.Sums.{prefix_len-le-length}
+use Rattle.texts.specs.Encoded.{goes_on}
+use Rattle.std.proofs.lemmas.List.{take_rest}
+use Rattle.texts.proofs.Encoded.{from_going_on}
 use Rattle.texts.proofs.utf8_text.Utf8TextInputData.start_from.Goals as goal
-use Rattle.texts.proofs.utf8_text.Utf8TextInputData.start_from.Goals.{then-on-test+else-goes_on, else-on-test}
 
-pub on-preserved : goal.on-preserved
-on-preserved c = sym (from_on c.args.self.now.bytes.now c.args.self.now.encoded c.on.start c.on-test.true (sym c.if-goes_on.ensures.value)) ∙ c.on.invariant
+pub overflow_add-result : goal.overflow_add-result
+overflow_add-result c =
+    let bytes = c.args.self.now.bytes.now in
+    let start = c.min-start.result in
+    record { fits = omega (arith, rw take_rest at c.going_on.ensures.value, prefix_len-le-length goes_on (drop start bytes), length-drop start bytes, c.min-start.ensures, c.args.self.now.few) }
 
 pub returns : goal.returns
-returns c =
-    let bytes = c.args.self.now.bytes.now in
-    record {
-      value =
-          elim c.on-test.branch [
-            | then-on-test+else-goes_on w ↦ omega (arith, w.on-test.true, c.min.ensures, c.on.invariant, from_here bytes c.args.self.now.encoded c.on.start w.on-test.true (sym w.if-goes_on.ensures.value))
-            | else-on-test w ↦ omega (arith, w.on-test.false, c.min.ensures, c.on.invariant, from_end bytes c.args.self.now.encoded c.on.start w.on-test.false)
-          ];
-    }
+returns c = record { value = omega (arith, rw take_rest at c.going_on.ensures.value, from_going_on c.args.self.now.bytes.now c.args.self.now.encoded c.args.at c.min-start.result c.min-start.ensures) }
