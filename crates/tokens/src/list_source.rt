@@ -1,9 +1,9 @@
 // A token source over a caller's tokens and bytes.
-ghost use Rattle.std.specs.Prelude.{◌≡◌, ◌<◌, ◌≤◌, true, not, ◌&&◌, length, drop};
+ghost use Rattle.std.specs.Prelude.{◌≡◌, ◌≤◌, true, cond, not, ◌&&◌, Some, None, length};
+ghost use Rattle.std.specs.Option.{option_map};
 ghost use Rattle.refusals.specs.Answers.{answer};
 ghost use Rattle.tokens.specs.Tokens.{is_eof, ends};
-ghost use Rattle.tokens.specs.Lists.{list_check, good_list, bytes_within, byte_text};
-ghost use Rattle.tokens.specs.Rests.{rest_lawful};
+ghost use Rattle.tokens.specs.Lists.{list_check, good_list, list_lawful, bytes_within, bytes_of, byte_text};
 
 use crate::token::{TOKEN_DEFAULT_CHANNEL, TOKEN_EOF, Token, UNSTAMPED};
 use crate::token_factory::{EOF_TEXT, put};
@@ -24,64 +24,41 @@ static LONE_EOF: [Token; 1] = [Token {
     index: UNSTAMPED,
 }];
 
-// The tokens from `at` on are still to come.
+// The tokens that are still to come, and the bytes that tokens show parts of.
 #[derive(Drop)]
 pub struct ListSource<'a> {
-    tokens: &'a [Token],
+    coming: &'a [Token],
     bytes: &'a [u8],
-    at: usize,
-    ghost ended: { ends tokens.now ≡ true },
-    ghost few: { length tokens.now ≤ 65536 },
-    ghost inside: { at < length tokens.now },
+    ghost ended: { ends coming.now ≡ true },
+    ghost few: { length coming.now ≤ 65536 },
 }
 
 // Whether the last token is the only EOF.
 fn ends_well(tokens: &[Token]) -> bool
     ensures value { result ≡ ends tokens.now }
 {
-    let Some(last) = tokens.len().checked_sub(1) else {
+    let Some((last, front)) = tokens.split_last() else {
         return false;
     };
-    let mut at = 0;
-    'walk: while at < last {
-        if tokens[at].is_eof() {
-            return false;
-        }
-        at += 1;
-    }
-    tokens[last].is_eof()
+    last.is_eof() && !front.iter().any(|token| token.is_eof())
 }
 
-// Whether a token shows some of the bytes.
-fn shows(bytes: &[u8], token: &Token) -> bool
-    ensures value { result ≡ (not (is_eof token.now) && bytes_within bytes.now token.now.start token.now.stop) }
+// The bytes that a token shows; the EOF, and a span that is not inside, show none.
+fn shown<'b>(bytes: &'b [u8], token: &Token) -> Option<&'b [u8]>
+    ensures value { option_map (λ b. b.now) result ≡ cond (not (is_eof token.now) && bytes_within bytes.now token.now.start token.now.stop) (Some (bytes_of bytes.now token.now.start token.now.stop)) None }
 {
-    if token.is_eof() {
-        return false;
+    let from = usize::try_from(token.start).ok()?;
+    if token.is_eof() || from >= bytes.len() {
+        return None;
     }
-    if token.start < 0 {
-        return false;
-    }
-    let from = token.start as usize;
-    let to = past(token.stop);
-    if from >= bytes.len() {
-        return false;
-    }
-    if to < from {
-        return false;
-    }
-    to <= bytes.len()
+    bytes.get(from..past(token.stop))
 }
 
 // The text of a token.
 fn text_of<'b>(bytes: &'b [u8], token: &Token) -> &'b [u8]
     ensures value { result.now ≡ byte_text bytes.now token.now }
 {
-    if shows(bytes, token) {
-        &bytes[token.start as usize..past(token.stop)]
-    } else {
-        EOF_TEXT
-    }
+    shown(bytes, token).unwrap_or(EOF_TEXT)
 }
 
 impl<'a> ListSource<'a> {
@@ -89,49 +66,42 @@ impl<'a> ListSource<'a> {
     pub fn check(tokens: &[Token]) -> Result<(), Refusal>
         ensures value { answer result ≡ list_check tokens.now }
     {
-        if tokens.len() > MOST_TOKENS {
-            return Err(Refusal::BadList);
+        if tokens.len() <= MOST_TOKENS && ends_well(tokens) {
+            Ok(())
+        } else {
+            Err(Refusal::BadList)
         }
-        if !ends_well(tokens) {
-            return Err(Refusal::BadList);
-        }
-        Ok(())
     }
 
     // A source over tokens and bytes; the tokens of a bad list are a lone EOF.
     pub fn new(tokens: &'a [Token], bytes: &'a [u8]) -> Self
-        ensures coming { drop result.at result.tokens.now ≡ good_list tokens.now }
+        ensures coming { result.coming.now ≡ good_list tokens.now }
         ensures bytes { result.bytes.now ≡ bytes.now }
     {
-        match Self::check(tokens) {
-            Ok(()) => ListSource {
-                tokens,
-                bytes,
-                at: 0,
-            },
-            Err(_) => ListSource {
-                tokens: &LONE_EOF,
-                bytes,
-                at: 0,
-            },
+        let good = Self::check(tokens).is_ok();
+        ListSource {
+            coming: if good { tokens } else { &LONE_EOF },
+            bytes,
         }
     }
 }
 
 impl<'a> TokenSource for ListSource<'a> {
-    ghost coming = { λ s. drop s.at s.tokens.now };
+    ghost coming = { λ s. s.coming.now };
 
     ghost text = { λ s. byte_text s.bytes.now };
 
-    ghost lawful = { λ s. rest_lawful s.at s.tokens.now s.ended s.few s.inside };
+    ghost lawful = { λ s. list_lawful s.coming.now s.ended s.few };
 
     fn next_token(&mut self) -> Token {
-        let mut token = self.tokens[self.at];
-        token.index = UNSTAMPED;
-        if self.at + 1 < self.tokens.len() {
-            self.at += 1;
+        let (first, rest) = self.coming.split_first().unwrap();
+        if !rest.is_empty() {
+            self.coming = rest;
         }
-        token
+        Token {
+            index: UNSTAMPED,
+            ..*first
+        }
     }
 
     fn text_len(&self, token: &Token) -> usize {

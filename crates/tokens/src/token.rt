@@ -2,13 +2,13 @@
 ghost use Rattle.std.specs.Prelude.{◌≡◌};
 ghost use Rattle.tokens.specs.Tokens.{same, is_eof, with_index};
 
-// The type of the EOF.
+// The type of the EOF, as the interface numbers it.
 pub const TOKEN_EOF: i32 = -1;
 
 // The channel of tokens that hide from nobody.
 pub const TOKEN_DEFAULT_CHANNEL: i32 = 0;
 
-// The index of a token that no stream holds.
+// The index of a token that no stream holds, as the interface numbers it.
 pub const UNSTAMPED: i32 = -1;
 
 // `start` and `stop` are positions of the input, `stop` inclusive.
@@ -27,7 +27,7 @@ impl Token {
     pub fn is_eof(&self) -> bool
         ensures value { result ≡ is_eof self.now }
     {
-        same(self.token_type, TOKEN_EOF)
+        self.token_type == TOKEN_EOF
     }
 
     // Gives the token its place in a stream.

@@ -1,7 +1,9 @@
 // The text of a token that spans a part of an input.
-ghost use Rattle.std.specs.Prelude.{◌≡◌, not, ◌&&◌, length};
+ghost use Rattle.std.specs.Prelude.{◌≡◌, cond, not, ◌&&◌, Some, None, length};
+ghost use Rattle.std.specs.Option.{option_map};
 ghost use Rattle.refusals.specs.Answers.{answer};
 ghost use Rattle.refusals.specs.Outputs.{written, overwritten};
+ghost use Rattle.characters.specs.Signed.{interval};
 ghost use Rattle.tokens.specs.Tokens.{is_eof};
 ghost use Rattle.tokens.specs.Spans.{spans, span_text};
 
@@ -21,34 +23,29 @@ pub(crate) fn put(bytes: &[u8], out: &mut [u8]) -> Result<usize, Refusal>
     if out.len() < len {
         return Err(Refusal::ShortOutput);
     }
-    out[0..len].copy_from_slice(bytes);
+    // `get_mut` would test and take at once, but promises nothing of what is written through it.
+    out[..len].copy_from_slice(bytes);
     Ok(len)
 }
 
-// Whether a token shows a part of the input.
-fn shows<D: InputData>(input: &D, token: &Token) -> bool
-    ensures value { result ≡ (not (is_eof token.now) && spans (D.InputData.meaning input.now) token.now) }
+// The part of the input that a token shows; the EOF, and a span that is not inside, show none.
+fn shown<D: InputData + Drop>(input: &D, token: &Token) -> Option<D>
+    ensures value { option_map D.InputData.meaning result ≡ cond (not (is_eof token.now) && spans (D.InputData.meaning input.now) token.now) (Some (interval (D.InputData.meaning input.now) token.now.start token.now.stop)) None }
 {
-    if token.is_eof() {
-        return false;
+    if token.is_eof() || token.start >= input.len() as i32 {
+        return None;
     }
-    if token.start >= input.len() as i32 {
-        return false;
-    }
-    match input.check_interval(token.start, token.stop) {
-        Ok(()) => true,
-        Err(_) => false,
-    }
+    input.check_interval(token.start, token.stop).ok()?;
+    Some(input.interval(token.start, token.stop))
 }
 
 // How many bytes the text of a token has.
 pub fn span_text_len<D: InputData + Drop>(input: &D, token: &Token) -> usize
     ensures value { result ≡ length (span_text (D.InputData.meaning input.now) token.now) }
 {
-    if shows(input, token) {
-        input.interval(token.start, token.stop).display_len()
-    } else {
-        EOF_TEXT.len()
+    match shown(input, token) {
+        Some(text) => text.display_len(),
+        None => EOF_TEXT.len(),
     }
 }
 
@@ -61,8 +58,8 @@ pub fn write_span_text<D: InputData + Drop>(
     ensures value { answer result ≡ written (span_text (D.InputData.meaning input.now) token.now) out.old }
     ensures after { out.new ≡ overwritten (span_text (D.InputData.meaning input.now) token.now) out.old }
 {
-    if shows(input, token) {
-        return input.interval(token.start, token.stop).to_display(out);
+    match shown(input, token) {
+        Some(text) => text.to_display(out),
+        None => put(EOF_TEXT, out),
     }
-    put(EOF_TEXT, out)
 }
