@@ -12,7 +12,10 @@ module _ (t : Text) (ok : Lawful t) where
   pub passed_none : (i : ℕ) → start_from t i ≡ i → Passed t i 0 i 0
   passed_none i s = record { counted = refl; start = s; left = refl; wide = omega arith }
 
-  -- where the next symbol starts
+  -- where the next symbol starts, or the size
+  pub next_start : (i next : ℕ) → next ≡ start_from t i → start_from t next ≡ next
+  next_start i next on = ap (start_from t) on ∙ start_from_start t ok i ∙ sym on
+
   pub next_above : (end c next : ℕ) → item_at t end ≡ Some c → next ≡ start_from t (suc end) → end < next
   next_above end c next e n = omega (arith, n, start_from_above t ok (suc end) (item_within t ok end c e))
 
@@ -31,7 +34,7 @@ module _ (t : Text) (ok : Lawful t) where
   pub passed_more : (i n end count c next : ℕ) → Passed t i n end count → item_at t end ≡ Some c → next ≡ start_from t (suc end) → Passed t i (n + 1) next (count + 1)
   passed_more i n end count c next old e on = record {
     counted = ap (λ k. k + 1) old.counted;
-    start = ap (start_from t) on ∙ start_from_start t ok (suc end) ∙ sym on;
+    start = next_start (suc end) next on;
     left = ap (drop 1) (sym (left_more end c next e on) ∙ old.left) ∙ drop-drop 1 n (onward t i);
     wide = omega (arith, old.wide, next_above end c next e on);
   }

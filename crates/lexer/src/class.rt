@@ -6,14 +6,15 @@ ghost use Rattle.lexer.specs.Lexed.{type_of, goes_on};
 
 use self::Class::{Blank, Digit, Hash, Letter, LineFeed, Other};
 
+// The number of a class is the type of the tokens that begin with a symbol of it.
 #[derive(Clone, Copy, PartialEq, Eq, Debug)]
 pub enum Class {
-    Letter,
-    Digit,
-    LineFeed,
-    Blank,
-    Hash,
-    Other,
+    Letter = 1,
+    Digit = 2,
+    LineFeed = 3,
+    Blank = 4,
+    Hash = 5,
+    Other = 6,
 }
 
 // The class of each symbol below 128. It stands in memory once, where a `const` would be copied at each read.
@@ -47,14 +48,7 @@ impl Class {
     pub fn token_type(self) -> i32
         ensures value { result ≡ pos (type_of self) }
     {
-        match self {
-            Letter => 1,
-            Digit => 2,
-            LineFeed => 3,
-            Blank => 4,
-            Hash => 5,
-            Other => 6,
-        }
+        self as i32
     }
 
     // The channel of those tokens: space and remarks hide from a parser, each on its own.

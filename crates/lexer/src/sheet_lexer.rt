@@ -26,53 +26,64 @@ struct Piece {
     count: usize,
 }
 
-// Passes over the symbols that a run goes on with.
-fn run<D: InputData>(input: &D, from: usize, class: Class) -> Piece
-    requires start { start_from (D.InputData.meaning input.now) from ≡ from }
-    ensures passed { Passed (D.InputData.meaning input.now) from (prefix_len (goes_on class) (rest (D.InputData.meaning input.now) from)) result.end result.count }
-{
-    let mut end = from;
-    let mut count = 0;
-    'walk: while let Some(point) = input.code_point(end) {
-        if !class.goes_on(point.code) {
-            break;
+// A place of an input where a symbol starts, or its end.
+#[derive(Drop)]
+struct Cursor<'a, D: InputData> {
+    input: &'a D,
+    at: usize,
+    ghost start: { start_from (D.InputData.meaning input.now) at ≡ at },
+}
+
+impl<'a, D: InputData> Cursor<'a, D> {
+    // Passes over the symbols that a run goes on with.
+    fn run(&self, class: Class) -> Piece
+        ensures passed { Passed (D.InputData.meaning self.now.input.now) self.now.at (prefix_len (goes_on class) (rest (D.InputData.meaning self.now.input.now) self.now.at)) result.end result.count }
+    {
+        let mut end = self.at;
+        let mut count = 0;
+        'walk: while let Some(point) = self.input.code_point(end) {
+            if !class.goes_on(point.code) {
+                break;
+            }
+            end = point.next;
+            count += 1;
         }
-        end = point.next;
-        count += 1;
+        Piece { end, count }
     }
-    Piece { end, count }
-}
 
-// Passes over what follows the first digit of a number: more digits, and a point where digits follow it.
-fn number<D: InputData>(input: &D, from: usize) -> Piece
-    requires start { start_from (D.InputData.meaning input.now) from ≡ from }
-    ensures passed { Passed (D.InputData.meaning input.now) from (number (rest (D.InputData.meaning input.now) from)) result.end result.count }
-{
-    let whole = run(input, from, Class::Digit);
-    let Some(point) = input.code_point(whole.end) else {
-        return whole;
-    };
-    if point.code != POINT {
-        return whole;
+    // Passes over what follows the first digit of a number: more digits, and a point where digits follow it.
+    fn number(&self) -> Piece
+        ensures passed { Passed (D.InputData.meaning self.now.input.now) self.now.at (number (rest (D.InputData.meaning self.now.input.now) self.now.at)) result.end result.count }
+    {
+        let whole = self.run(Class::Digit);
+        let Some(point) = self.input.code_point(whole.end) else {
+            return whole;
+        };
+        if point.code != POINT {
+            return whole;
+        }
+        let after = Cursor {
+            input: self.input,
+            at: point.next,
+        };
+        let fraction = after.run(Class::Digit);
+        if fraction.count == 0 {
+            return whole;
+        }
+        Piece {
+            end: fraction.end,
+            count: whole.count + 1 + fraction.count,
+        }
     }
-    let fraction = run(input, point.next, Class::Digit);
-    if fraction.count == 0 {
-        return whole;
-    }
-    Piece {
-        end: fraction.end,
-        count: whole.count + 1 + fraction.count,
-    }
-}
 
-// Passes over what follows the first symbol of a match.
-fn rest_of_match<D: InputData>(input: &D, from: usize, class: Class) -> Piece
-    requires start { start_from (D.InputData.meaning input.now) from ≡ from }
-    ensures passed { Passed (D.InputData.meaning input.now) from (more class (rest (D.InputData.meaning input.now) from)) result.end result.count }
-{
-    match class {
-        Class::Digit => number(input, from),
-        _ => run(input, from, class),
+    // Passes over what follows the first symbol of a match.
+    fn rest_of_match(&self, class: Class) -> Piece
+        ensures passed { Passed (D.InputData.meaning self.now.input.now) self.now.at (more class (rest (D.InputData.meaning self.now.input.now) self.now.at)) result.end result.count }
+    {
+        match class {
+            Class::Digit => self.number(),
+            _ => self.run(class),
+        }
     }
 }
 
@@ -165,7 +176,11 @@ impl<D: InputData + Drop> TokenSource for SheetLexer<D> {
             return self.eof();
         };
         let class = class_of(first.code);
-        let piece = rest_of_match(&self.input, first.next, class);
+        let second = Cursor {
+            input: &self.input,
+            at: first.next,
+        };
+        let piece = second.rest_of_match(class);
         let token = self.token(class, piece.end);
         self.at = piece.end;
         if class == Class::LineFeed {

@@ -1,7 +1,5 @@
 use Rattle.std.proofs.Common.{sym, refl, ap, ◌∙◌, arith}
-use Rattle.characters.specs.Text.{start_from}
-use Rattle.characters.proofs.Starts.{start_from_start}
-use Rattle.lexer.proofs.Passing.{end_within}
+use Rattle.lexer.proofs.Passing.{next_start, end_within}
 use Rattle.lexer.proofs.Pulling.{pulled_eof, pulled_more, passed_wide, line_feed_line, line_feed_column, same_line, same_line_column}
 use Rattle.lexer.specs.contracts.class.Class.{the_type}
 use denote.Enum.Bare.{same_true, same_false}
@@ -15,12 +13,10 @@ returns-in_default g c =
       texts = refl;
     }
 
-pub rest_of_match-piece-requires : goal.rest_of_match-piece-requires
-rest_of_match-piece-requires g c =
-    let self = c.args.self.now in
-    let t = g.D.InputData.meaning self.input in
-    let on = c.in-Some.ensures.next in
-    record { start = ap (start_from t) on ∙ start_from_start t (g.D.InputData.lawful self.input) _ ∙ sym on }
+pub invariant_of-second : goal.invariant_of-second
+invariant_of-second g c =
+    let input = c.args.self.now.input in
+    record { start = next_start (g.D.InputData.meaning input) (g.D.InputData.lawful input) _ _ c.in-Some.ensures.next }
 
 pub token-token-requires : goal.token-token-requires
 token-token-requires g c =
