@@ -35,7 +35,7 @@ struct Cursor<'a, D: InputData> {
 }
 
 impl<'a, D: InputData> Cursor<'a, D> {
-    // Passes over the symbols that a run goes on with.
+    // Passes over the symbols that a run goes on with. It takes the class, and no closure: each would only call `goes_on`.
     fn run(&self, class: Class) -> Piece
         ensures passed { Passed (D.InputData.meaning self.now.input.now) self.now.at (prefix_len (goes_on class) (rest (D.InputData.meaning self.now.input.now) self.now.at)) result.end result.count }
     {
@@ -87,23 +87,7 @@ impl<'a, D: InputData> Cursor<'a, D> {
     }
 }
 
-// A position, a line or a column as tokens hold it.
-fn signed(n: usize) -> i32
-    requires fits { n < 2 ^ 31 }
-    ensures value { result ≡ pos n }
-{
-    n as i32
-}
-
-// The position just before another, -1 before 0.
-fn before(n: usize) -> i32
-    requires fits { n < 2 ^ 31 }
-    ensures value { result ≡ before n }
-{
-    n as i32 - 1
-}
-
-// The lexer stands at a start, on a line and in a column.
+// The lexer stands at a start, on a line and in a column. That it is a start needs no ghost field: elsewhere only the EOF is to come.
 #[derive(Drop)]
 pub struct SheetLexer<D> {
     input: D,
@@ -139,10 +123,10 @@ impl<D: InputData + Drop> SheetLexer<D> {
         Token {
             token_type: TOKEN_EOF,
             channel: TOKEN_DEFAULT_CHANNEL,
-            start: signed(size),
-            stop: before(size),
-            line: signed(self.line),
-            column: signed(self.column),
+            start: size as i32,
+            stop: size as i32 - 1,
+            line: self.line as i32,
+            column: self.column as i32,
             index: UNSTAMPED,
         }
     }
@@ -155,10 +139,10 @@ impl<D: InputData + Drop> SheetLexer<D> {
         Token {
             token_type: class.token_type(),
             channel: class.channel(),
-            start: signed(self.at),
-            stop: before(end),
-            line: signed(self.line),
-            column: signed(self.column),
+            start: self.at as i32,
+            stop: end as i32 - 1,
+            line: self.line as i32,
+            column: self.column as i32,
             index: UNSTAMPED,
         }
     }

@@ -4,11 +4,8 @@ use Rattle.characters.specs.Text.{Text}
 use Rattle.characters.proofs.Onward.{item_within}
 use Rattle.lexer.specs.Lexed.{goes_on}
 use Rattle.lexer.specs.Passed.{Passed, rest}
-use Rattle.lexer.proofs.Passing.{passed_none, passed_more, next_above, end_within, rest_more, rest_none, leading_yes, leading_no}
+use Rattle.lexer.proofs.Passing.{passed_more, next_above, end_within, rest_more, rest_none, leading_yes, leading_no}
 use Rattle.lexer.proofs.sheet_lexer.Cursor.run.Goals as goal
-
-pub walk-init : goal.walk-init
-walk-init g c = let input = g.D.InputData in (passed_none (input.meaning c.args.self.now.input.now) (input.lawful c.args.self.now.input.now) _ c.args.self.now.start, omega arith)
 
 pub overflow_add-count : goal.overflow_add-count
 overflow_add-count g c =

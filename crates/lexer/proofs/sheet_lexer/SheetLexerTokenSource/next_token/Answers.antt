@@ -1,4 +1,4 @@
-use Rattle.std.proofs.Common.{sym, refl, ap, ◌∙◌, arith}
+use Rattle.std.proofs.Common.{sym, refl, arith}
 use Rattle.lexer.proofs.Passing.{next_start, end_within}
 use Rattle.lexer.proofs.Pulling.{pulled_eof, pulled_more, passed_wide, line_feed_line, line_feed_column, same_line, same_line_column}
 use Rattle.lexer.specs.contracts.class.Class.{the_type}
