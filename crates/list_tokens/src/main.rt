@@ -11,10 +11,8 @@ const READ: u64 = 65_537;
 
 // The number is the answer, and the words are for whoever looks on.
 fn print_refusal(rt: &HostRuntime, refusal: Refusal) -> io::Result<()> {
-    let number = refusal.number();
-    let word = refusal.word();
-    println!(rt; "REFUSED {number}")?;
-    eprintln!(rt; "list-tokens: {word}")
+    println!(rt; "REFUSED {}", refusal.number())?;
+    eprintln!(rt; "list-tokens: {}", refusal.word())
 }
 
 fn main(rt: HostRuntime) -> io::Result<()> {
@@ -24,8 +22,8 @@ fn main(rt: HostRuntime) -> io::Result<()> {
     match list_sheet(heap, sheet.as_slice()) {
         Ok(lines) => rt.stdout().write_all(lines.as_slice()),
         Err(Stop::Refused(refusal)) => print_refusal(&rt, refusal),
-        Err(Stop::NoMemory) => {
-            eprintln!(rt; "list-tokens: out of memory")?;
+        Err(stop @ Stop::NoMemory) => {
+            eprintln!(rt; "list-tokens: {stop}")?;
             Err(io::Error::from(io::ErrorKind::OutOfMemory))
         }
     }

@@ -1,10 +1,15 @@
 -- A pull takes one line off the listing. Assumes nothing.
-use Rattle.std.proofs.Common.{◌≡◌, ℕ, ◌+◌, true, false, not, List, [], ◌∷◌, ◌++◌, length, sym, ap, ◌∙◌, append-nil, arith}
-use Rattle.std.proofs.lemmas.Bool.{and_parts, not-true, both_ways}
+use Rattle.std.proofs.Common.{◌≡◌, ℕ, ◌+◌, ◌<◌, true, false, not, List, [], ◌∷◌, ◌++◌, length, sym, ap, ◌∙◌, append-nil, arith}
+use Rattle.std.proofs.lemmas.Bool.{and_parts, not-true, both_ways, false≢true}
 use Rattle.tokens.specs.declared.token.Token.{Token}
 use Rattle.tokens.specs.Tokens.{is_eof, unstamped, ends}
 use Rattle.tokens.specs.Sources.{Pulls}
 use Rattle.listing.specs.Lines.{line, listed}
+
+-- a list that ends has its EOF still to come
+pub some_left : (ks : List Token) → ends ks ≡ true → 0 < length ks
+some_left [] e = absurd (false≢true e)
+some_left (k ∷ ks) e = omega arith
 
 module _ (text : Token → List ℕ) (i : ℕ) where
   -- what is listed of a token is the same with and without an index

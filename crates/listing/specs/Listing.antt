@@ -1,8 +1,8 @@
 -- From the bytes of a sheet to its listing. Assumes nothing.
-use Rattle.std.specs.Prelude.{◌≡◌, ℕ, List, Ok, Err, vec_items, Result, Vec}
+use Rattle.std.specs.Prelude.{◌≡◌, ℕ, List, codes, Ok, Err, vec_items, Result, Vec}
 use Rattle.std.specs.declared.alloc.Global.{Global}
 use Rattle.refusals.specs.Answers.{refuses}
-use Rattle.refusals.specs.Numbers.{number}
+use Rattle.refusals.specs.Numbers.{number, meaning}
 use Rattle.utf8.specs.Reading.{Checked}
 use Rattle.texts.specs.Encoded.{Readable, encoded_text}
 use Rattle.tokens.specs.declared.token.Token.{Token}
@@ -26,3 +26,8 @@ abbrev pub Listing : List ℕ → Result (Vec ℕ Global) Stop → Type 0
 Listing bytes (Ok v) = Listed bytes (vec_items v)
 Listing bytes (Err (Refused e)) = Checked bytes (refuses (number e))
 Listing bytes (Err NoMemory) = Readable bytes
+
+-- the words for a person to read
+abbrev pub words : Stop → List ℕ
+words (Refused e) = meaning e
+words NoMemory = codes "out of memory"

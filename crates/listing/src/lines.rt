@@ -1,10 +1,13 @@
 // The lines of a listing.
-ghost use Rattle.std.specs.Prelude.{◌≡◌, ◌++◌, IfOk, string_bytes, OnOk};
-ghost use Rattle.listing.specs.Lines.{escape, escaped, line_head, line, listed};
+ghost use Rattle.std.specs.Prelude.{◌≡◌, ◌++◌, IfOk, OnOk};
+ghost use Rattle.listing.specs.Lines.{escape, escaped, line, listed};
 
 use std::alloc::{AllocError, Global};
 use tokens::token::Token;
 use tokens::token_source::TokenSource;
+
+// No source has more tokens to come.
+const MOST_TOKENS: u32 = 1_048_576;
 
 // Adds a byte of a text to a line. What would break the line, or read as an escape, is escaped.
 fn push_escaped(out: &mut Vec<u8>, byte: u8) -> Result<(), AllocError>
@@ -15,10 +18,7 @@ fn push_escaped(out: &mut Vec<u8>, byte: u8) -> Result<(), AllocError>
         '\t' => out.extend_from_slice(b"\\t"),
         '\r' => out.extend_from_slice(b"\\r"),
         '\\' => out.extend_from_slice(b"\\\\"),
-        _ => {
-            out.push(byte)?;
-            Ok(())
-        }
+        _ => Ok(out.push(byte)?),
     }
 }
 
@@ -32,47 +32,37 @@ fn push_text(out: &mut Vec<u8>, text: &[u8]) -> Result<(), AllocError>
     Ok(())
 }
 
-// What stands in a line before the text.
-fn head(heap: Global, index: u32, token: &Token) -> Result<String, AllocError>
-    ensures made { IfOk result (λ s. string_bytes s ≡ line_head index token.now) }
-{
-    let token_type = token.token_type;
-    let channel = token.channel;
-    format!(in heap; "{index} {token_type} {channel} [")
-}
-
 // Adds the line of a token with an index and a text.
 pub fn push_line(
     out: &mut Vec<u8>,
-    heap: Global,
     index: u32,
     token: &Token,
     text: &[u8],
 ) -> Result<(), AllocError>
     ensures after { OnOk result (out.new.items ≡ out.old.items ++ line index token.now text.now) }
 {
-    let head = head(heap, index, token)?;
+    let heap = *out.allocator();
+    // A `String` between, since what `write!` onto the bytes answers is no `AllocError`.
+    let head = format!(in heap; "{index} {} {} [", token.token_type, token.channel)?;
     out.extend_from_slice(head.as_bytes())?;
     push_text(out, text)?;
-    out.extend_from_slice(b"]\n")?;
-    Ok(())
+    out.extend_from_slice(b"]\n")
 }
 
 // Adds the line of a token that a source gave.
 fn push_token<S: TokenSource>(
     out: &mut Vec<u8>,
-    heap: Global,
     source: &S,
     index: u32,
     token: &Token,
 ) -> Result<(), AllocError>
     ensures after { OnOk result (out.new.items ≡ out.old.items ++ line index token.now (S.TokenSource.text source.now token.now)) }
 {
+    let heap = *out.allocator();
     let mut text = vec![in heap; 0; source.text_len(token)]?;
     // The text fits, since the buffer has its length.
     let _ = source.write_text(token, text.as_mut_slice());
-    push_line(out, heap, index, token, text.as_slice())?;
-    Ok(())
+    push_line(out, index, token, text.as_slice())
 }
 
 // The listing of the tokens that a source gives, through the EOF.
@@ -81,14 +71,12 @@ pub fn list<S: TokenSource + Drop>(heap: Global, source: S) -> Result<Vec<u8>, A
 {
     let mut source = source;
     let mut out = Vec::new(heap);
-    let mut index = 0;
-    'pull: loop {
+    'pull: for index in 0..MOST_TOKENS {
         let token = source.next_token();
-        push_token(&mut out, heap, &source, index, &token)?;
+        push_token(&mut out, &source, index, &token)?;
         if token.is_eof() {
-            break;
+            return Ok(out);
         }
-        index += 1;
     }
-    Ok(out)
+    unreachable!()
 }

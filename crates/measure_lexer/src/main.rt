@@ -9,24 +9,25 @@ use std::time::Instant;
 use texts::utf8_text::Utf8Text;
 use tokens::token_source::TokenSource;
 
-// How many tokens a text has, the EOF included. A text has no more than one for each byte, and the EOF.
+// A text has no more tokens than one for each byte, and the EOF.
+const MOST_TOKENS: u64 = 65_537;
+
+// How many tokens a text has, the EOF included.
 fn count(text: Utf8Text) -> u64 {
     let mut lexer = SheetLexer::new(text);
-    let mut tokens = 0u64;
-    for _ in 0..65_537 {
-        tokens = tokens.wrapping_add(1);
+    for tokens in 1..MOST_TOKENS {
         if lexer.next_token().is_eof() {
-            break;
+            return tokens;
         }
     }
-    tokens
+    MOST_TOKENS
 }
 
 fn run(rt: &HostRuntime) -> anyhow::Result<()> {
-    let mut rounds = 1u32;
-    for word in env::args(rt)?.skip(1) {
-        rounds = word.as_str().parse::<u32>()?;
-    }
+    let rounds = match env::args(rt)?.nth(1) {
+        Some(word) => word.as_str().parse::<u32>()?,
+        None => 1,
+    };
     let mut sheet = Vec::new(rt.alloc());
     rt.stdin().take(65_537).read_to_end(&mut sheet)?;
     let bytes = sheet.as_slice();
@@ -36,8 +37,7 @@ fn run(rt: &HostRuntime) -> anyhow::Result<()> {
         tokens = tokens.wrapping_add(count(Utf8Text::new(bytes)));
     }
     let spent = start.elapsed(rt)?;
-    let size = bytes.len();
-    println!(rt; "{size} bytes, {rounds} rounds, {tokens} tokens")?;
+    println!(rt; "{} bytes, {rounds} rounds, {tokens} tokens", bytes.len())?;
     eprintln!(rt; "{spent:?}")?;
     Ok(())
 }

@@ -1,26 +1,31 @@
 // Lists sheets that are easy to get wrong, of every kind of text. What is printed is compared with a stored output.
 #![tactic(auto)]
 
-use anyhow::anyhow;
 use characters::char_stream::InputData;
 use lexer::sheet_lexer::SheetLexer;
 use listing::lines::list;
 use listing::sheet::{Stop, list_sheet};
+use refusals::Refusal;
 use std::alloc::Global;
 use std::io::Write;
 use texts::units::{CodePoints8, CodePoints16, CodePoints32, Unit};
 use tokens::token_source::TokenSource;
 
+// The listing of a sheet, or its refusal.
+fn listed(heap: Global, sheet: &[u8]) -> anyhow::Result<Result<Vec<u8>, Refusal>> {
+    match list_sheet(heap, sheet) {
+        Ok(lines) => Ok(Ok(lines)),
+        Err(Stop::Refused(refusal)) => Ok(Err(refusal)),
+        Err(stop) => Err(stop.into()),
+    }
+}
+
 // The name of a sample, and its listing or its refusal.
 fn show(rt: &HostRuntime, name: &str, sheet: &[u8]) -> anyhow::Result<()> {
     println!(rt; "-- {name}")?;
-    match list_sheet(rt.alloc(), sheet) {
+    match listed(rt.alloc(), sheet)? {
         Ok(lines) => rt.stdout().write_all(lines.as_slice())?,
-        Err(Stop::Refused(refusal)) => {
-            let number = refusal.number();
-            println!(rt; "REFUSED {number}")?;
-        }
-        Err(Stop::NoMemory) => return Err(anyhow!("out of memory")),
+        Err(refusal) => println!(rt; "REFUSED {}", refusal.number())?,
     }
     Ok(())
 }
@@ -40,16 +45,9 @@ fn show_tokens<S: TokenSource + Drop>(
 // How long the listing of so many letters is, or its refusal: the whole would fill pages.
 fn show_many(rt: &HostRuntime, heap: Global, count: usize) -> anyhow::Result<()> {
     let sheet = vec![in heap; 97; count]?;
-    match list_sheet(heap, sheet.as_slice()) {
-        Ok(lines) => {
-            let len = lines.len();
-            println!(rt; "-- {count} letters: {len} bytes")?;
-        }
-        Err(Stop::Refused(refusal)) => {
-            let number = refusal.number();
-            println!(rt; "-- {count} letters: REFUSED {number}")?;
-        }
-        Err(Stop::NoMemory) => return Err(anyhow!("out of memory")),
+    match listed(heap, sheet.as_slice())? {
+        Ok(lines) => println!(rt; "-- {count} letters: {} bytes", lines.len())?,
+        Err(refusal) => println!(rt; "-- {count} letters: REFUSED {}", refusal.number())?,
     }
     Ok(())
 }

@@ -1,6 +1,6 @@
 use Rattle.std.proofs.Common.{◌+◌, ◌++◌, vec_items, sym, ap, ◌∙◌, append_assoc, arith}
 use Rattle.listing.specs.Lines.{line, listed}
-use Rattle.listing.proofs.Pulled.{pulled_more, pulled_last}
+use Rattle.listing.proofs.Pulled.{some_left, pulled_more, pulled_last}
 use Rattle.listing.proofs.lines.list.Goals as goal
 
 pub pull-preserved : goal.pull-preserved
@@ -17,14 +17,8 @@ pull-preserved g c =
       omega (arith, more.1, c.pull.invariant.2),
     )
 
-pub pull-smaller : goal.pull-smaller
-pull-smaller g c =
-    let source = g.S.TokenSource in
-    let more = pulled_more (source.text c.args.source) c.pull.index (source.coming c.pull.source) (source.coming c.next_token-token.new.self) c.next_token-token.result c.next_token-token.ensures.pulls (source.lawful c.pull.source).ended (sym c.if-is_eof.ensures.value) in
-    omega (arith, more.1)
-
-pub returns : goal.returns
-returns g c =
+pub returns-then-is_eof : goal.returns-then-is_eof
+returns-then-is_eof g c =
     let source = g.S.TokenSource in
     let text = source.text c.args.source in
     let token = c.next_token-token.result in
@@ -35,3 +29,6 @@ returns g c =
           c.in_ok-push_token.ensures.after ∙ ap (λ f. vec_items c.pull.out ++ line c.pull.index token (f token)) texts
           ∙ ap (λ l. vec_items c.pull.out ++ l) (sym last) ∙ c.pull.invariant.1;
     }
+
+pub unreachable-requires : goal.unreachable-requires
+unreachable-requires g c = omega (arith, c.pull.invariant.2, some_left (g.S.TokenSource.coming c.pull.source) (g.S.TokenSource.lawful c.pull.source).ended)

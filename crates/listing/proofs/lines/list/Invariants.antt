@@ -8,6 +8,3 @@ invariant-pull g l =
     (g.S.TokenSource.text l.source ≡ g.S.TokenSource.text l.initial.source)
     × (vec_items l.out ++ listed (g.S.TokenSource.text l.initial.source) l.index (g.S.TokenSource.coming l.source) ≡ listed (g.S.TokenSource.text l.initial.source) 0 (g.S.TokenSource.coming l.initial.source))
     × (l.index + length (g.S.TokenSource.coming l.source) ≤ 1048576)
-
-abbrev pub decreases-pull : goal.decreases-pull
-decreases-pull g l = length (g.S.TokenSource.coming l.source)
