@@ -32,20 +32,20 @@ kind c = go (letter c) (digit c) (line_feed c) (blank c) (hash c) refl refl refl
 
 -- the class of the line feed has no other symbol, and its type no other class
 pub kind_feed : {c : ℕ} {k : Class} → Kind c k → k ≡ LineFeed → line_feed c ≡ true
-kind_feed (letters e) is = let z : ◌≡◌ {A = ℕ} 0 1 = cc in absurd (omega arith)
-kind_feed (digits e) is = let z : ◌≡◌ {A = ℕ} 0 1 = cc in absurd (omega arith)
+kind_feed (letters e) is = absurd cc
+kind_feed (digits e) is = absurd cc
 kind_feed (feeds e) is = e
-kind_feed (blanks e) is = let z : ◌≡◌ {A = ℕ} 0 1 = cc in absurd (omega arith)
-kind_feed (hashes e) is = let z : ◌≡◌ {A = ℕ} 0 1 = cc in absurd (omega arith)
-kind_feed (others e) is = let z : ◌≡◌ {A = ℕ} 0 1 = cc in absurd (omega arith)
+kind_feed (blanks e) is = absurd cc
+kind_feed (hashes e) is = absurd cc
+kind_feed (others e) is = absurd cc
 
 pub feed_cases : (k : Class) → (k ≡ LineFeed) ⊎ ((k ≡ LineFeed → ⊥) × (type_of k ≡ 3 → ⊥))
-feed_cases Letter = inr (λ e. let z : ◌≡◌ {A = ℕ} 0 1 = cc in omega arith, λ e. omega arith)
-feed_cases Digit = inr (λ e. let z : ◌≡◌ {A = ℕ} 0 1 = cc in omega arith, λ e. omega arith)
+feed_cases Letter = inr (λ e. cc, λ e. omega arith)
+feed_cases Digit = inr (λ e. cc, λ e. omega arith)
 feed_cases LineFeed = inl refl
-feed_cases Blank = inr (λ e. let z : ◌≡◌ {A = ℕ} 0 1 = cc in omega arith, λ e. omega arith)
-feed_cases Hash = inr (λ e. let z : ◌≡◌ {A = ℕ} 0 1 = cc in omega arith, λ e. omega arith)
-feed_cases Other = inr (λ e. let z : ◌≡◌ {A = ℕ} 0 1 = cc in omega arith, λ e. omega arith)
+feed_cases Blank = inr (λ e. cc, λ e. omega arith)
+feed_cases Hash = inr (λ e. cc, λ e. omega arith)
+feed_cases Other = inr (λ e. cc, λ e. omega arith)
 
 -- the tests exclude each other
 pub class_letter : (c : ℕ) → letter c ≡ true → class c ≡ Letter

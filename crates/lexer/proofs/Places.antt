@@ -24,16 +24,16 @@ of_class : (c : ℕ) (k : Class) → class c ≡ k → (k ≡ LineFeed → ⊥) 
 of_class c k e h = not_feed c (λ f. h (sym e ∙ f))
 
 letter_is_none : Letter ≡ LineFeed → ⊥
-letter_is_none e = let z : ◌≡◌ {A = ℕ} 0 1 = cc in omega arith
+letter_is_none e = cc
 
 digit_is_none : Digit ≡ LineFeed → ⊥
-digit_is_none e = let z : ◌≡◌ {A = ℕ} 0 1 = cc in omega arith
+digit_is_none e = cc
 
 blank_is_none : Blank ≡ LineFeed → ⊥
-blank_is_none e = let z : ◌≡◌ {A = ℕ} 0 1 = cc in omega arith
+blank_is_none e = cc
 
 other_is_none : Other ≡ LineFeed → ⊥
-other_is_none e = let z : ◌≡◌ {A = ℕ} 0 1 = cc in omega arith
+other_is_none e = cc
 
 digits_quiet : (cs : List ℕ) → AllByRecursion (λ c. digit c ≡ true) cs → Quiet cs
 digits_quiet cs all = All-weaker (λ c. digit c ≡ true) (λ c. line_feed c ≡ false) (λ c e. of_class c Digit (class_digit c e) digit_is_none) cs all

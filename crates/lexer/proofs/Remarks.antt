@@ -57,7 +57,7 @@ sorted (remark {cs} a) = inr (record { typed = refl; follows = cs; first = refl;
 sorted (other {c} k) = inl (plain_value 6 (c ∷ []) refl (λ is. hash_other (sym (ap class is) ∙ k), tt))
   where
     hash_other : Hash ≡ Other → ⊥
-    hash_other e = let z : ◌≡◌ {A = ℕ} 0 1 = cc in omega arith
+    hash_other e = cc
 
 -- a symbol that fails the test for a line feed is none
 not_feed : (c : ℕ) → line_feed c ≡ false → c ≡ 10 → ⊥
