@@ -167,11 +167,12 @@ impl<D: InputData + Drop> TokenSource for SheetLexer<D> {
         let piece = second.rest_of_match(class);
         let token = self.token(class, piece.end);
         self.at = piece.end;
-        if class == Class::LineFeed {
-            self.line += 1;
-            self.column = 0;
-        } else {
-            self.column += 1 + piece.count;
+        match class {
+            Class::LineFeed => {
+                self.line += 1;
+                self.column = 0;
+            }
+            _ => self.column += 1 + piece.count,
         }
         token
     }

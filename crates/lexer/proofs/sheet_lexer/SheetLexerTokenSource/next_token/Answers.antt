@@ -1,8 +1,6 @@
 use Rattle.std.proofs.Common.{sym, refl, arith}
 use Rattle.lexer.proofs.Passing.{next_start, end_within}
 use Rattle.lexer.proofs.Pulling.{pulled_eof, pulled_more, passed_wide, line_feed_line, line_feed_column, same_line, same_line_column}
-use Rattle.lexer.specs.contracts.class.Class.{the_type}
-use denote.Enum.Bare.{same_true, same_false}
 use Rattle.lexer.proofs.sheet_lexer.SheetLexerTokenSource.next_token.Goals as goal
 
 pub returns-in_default : goal.returns-in_default
@@ -23,8 +21,8 @@ token-token-requires g c =
     let self = c.args.self.now in
     record { fits = end_within (g.D.InputData.meaning self.input) (g.D.InputData.lawful self.input) _ c.rest_of_match-piece.ensures.passed.start }
 
-pub invariant_of-self-then-eq : goal.invariant_of-self-then-eq
-invariant_of-self-then-eq g c =
+pub invariant_of-self-in-LineFeed : goal.invariant_of-self-in-LineFeed
+invariant_of-self-in-LineFeed g c =
     let self = c.args.self.now in
     let t = g.D.InputData.meaning self.input in
     let ok = g.D.InputData.lawful self.input in
@@ -33,8 +31,8 @@ invariant_of-self-then-eq g c =
     let wide = passed_wide t ok _ _ _ _ _ _ (sym found.value) found.next passed in
     record { inside = end_within t ok _ passed.start; lines = omega (arith, self.lines, wide); columns = omega arith }
 
-pub invariant_of-self-else-eq : goal.invariant_of-self-else-eq
-invariant_of-self-else-eq g c =
+pub invariant_of-self-in_default-class : goal.invariant_of-self-in_default-class
+invariant_of-self-in_default-class g c =
     let self = c.args.self.now in
     let t = g.D.InputData.meaning self.input in
     let ok = g.D.InputData.lawful self.input in
@@ -43,11 +41,11 @@ invariant_of-self-else-eq g c =
     let wide = passed_wide t ok _ _ _ _ _ _ (sym found.value) found.next passed in
     record { inside = end_within t ok _ passed.start; lines = omega (arith, self.lines, wide); columns = omega (arith, self.columns, wide) }
 
-pub returns-then-eq : goal.returns-then-eq
-returns-then-eq g c =
+pub returns-in-LineFeed : goal.returns-in-LineFeed
+returns-in-LineFeed g c =
     let self = c.args.self.now in
     let found = c.in-Some.ensures in
-    let feed = same_true the_type tt _ _ (sym c.if-eq.ensures) in
+    let feed = c.in-LineFeed.is in
     record {
       pulls =
           pulled_more (g.D.InputData.meaning self.input) (g.D.InputData.lawful self.input) _ _ _ _ _ _ _ _ _ _ _ (sym found.value) found.next c.class_of-class.ensures.value
@@ -55,11 +53,11 @@ returns-then-eq g c =
       texts = refl;
     }
 
-pub returns-else-eq : goal.returns-else-eq
-returns-else-eq g c =
+pub returns-in_default-class : goal.returns-in_default-class
+returns-in_default-class g c =
     let self = c.args.self.now in
     let found = c.in-Some.ensures in
-    let other = same_false the_type _ _ (sym c.if-eq.ensures) in
+    let other = c.in_default-class.not-LineFeed in
     record {
       pulls =
           pulled_more (g.D.InputData.meaning self.input) (g.D.InputData.lawful self.input) _ _ _ _ _ _ _ _ _ _ _ (sym found.value) found.next c.class_of-class.ensures.value
