@@ -66,10 +66,9 @@ fn push_token<S: TokenSource>(
 }
 
 // The listing of the tokens that a source gives, through the EOF.
-pub fn list<S: TokenSource + Drop>(heap: Global, source: S) -> Result<Vec<u8>, AllocError>
+pub fn list<S: TokenSource + Drop>(heap: Global, mut source: S) -> Result<Vec<u8>, AllocError>
     ensures made { IfOk result (λ v. v.items ≡ listed (S.TokenSource.text source) 0 (S.TokenSource.coming source)) }
 {
-    let mut source = source;
     let mut out = Vec::new(heap);
     'pull: for index in 0..MOST_TOKENS {
         let token = source.next_token();
