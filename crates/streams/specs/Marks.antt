@@ -8,6 +8,7 @@ use Rattle.streams.specs.declared.mark.Mark.{Mark}
 use Rattle.streams.specs.declared.mark.Kept.{Kept}
 use Rattle.streams.specs.declared.mark.Numbering.{Numbering}
 use Rattle.streams.specs.declared.mark.Numbering.TheVariants.{Fixed, Falling}
+use Rattle.streams.specs.declared.mark.Marks.{Marks}
 
 -- the number of a mark that is made while so many are out: always the same, or -1, -2 and so on
 abbrev pub numbered : Numbering → ℕ → ℤ
@@ -23,6 +24,13 @@ falls Falling = true
 abbrev pub numbers : Numbering → ℕ → List ℤ
 numbers how zero = []
 numbers how (suc out) = numbered how out ∷ numbers how out
+
+-- the numbers of the marks of a stream that are out, the latest first, and the one of its next mark
+abbrev pub numbers_out : Marks → List ℤ
+numbers_out ms = numbers ms.numbering ms.out
+
+abbrev pub next_number : Marks → ℤ
+next_number ms = numbered ms.numbering ms.out
 
 -- one mark more; 8 marks used up
 abbrev pub marking : List ℤ → ℤ → Answer ℤ

@@ -1,5 +1,5 @@
 // A mark keeps what a stream may go back to, until it is given back.
-ghost use Rattle.std.specs.Prelude.{◌≡◌, ◌≤◌, true};
+ghost use Rattle.std.specs.Prelude.{◌≡◌, true};
 
 use refusals::Refusal;
 
@@ -7,7 +7,8 @@ mod ledger;
 mod stacking;
 
 // A mark is made by a ledger and taken back by one, which spends it. A program cannot let it go before: its `drop` asks for
-// a spent mark, and nobody holds one.
+// a spent mark, and nobody holds one. `spent` is a flag since that is proved of each program: a type with no `drop` would
+// keep the rule by the compiler alone.
 pub struct Mark {
     number: i32,
     spent: bool,
@@ -37,20 +38,19 @@ pub enum Numbering {
     Falling,
 }
 
-// The marks of one stream that are out.
+// The marks of one stream that are out: no more than a `u8` counts.
 #[derive(Drop)]
 pub struct Marks {
     numbering: Numbering,
-    out: usize,
-    ghost few: { out ≤ 255 },
+    out: u8,
 }
 
 // Marks that a stream gave, kept one upon the other. They are still to be given back: a pile can be let go only when it is
-// empty.
+// empty. Its fields are those of `Marks`, and what both do with the two is the numbering's: one struct for them would only
+// lengthen each clause.
 pub struct Pile {
     numbering: Numbering,
-    len: usize,
-    ghost few: { len ≤ 255 },
+    len: u8,
 }
 
 impl Drop for Pile {

@@ -4,10 +4,8 @@ ghost use Rattle.std.specs.Option.{option_map};
 ghost use Rattle.refusals.specs.Answers.{if_given};
 ghost use Rattle.streams.specs.Marks.{top, piling, released, HandedBack};
 
-use crate::mark::ledger::{MOST_MARKS, numbered};
 use crate::mark::{Kept, Mark, Numbering, Pile};
 use refusals::Refusal;
-use tokens::token::same;
 
 impl Pile {
     // No mark, of a stream that numbers its marks so.
@@ -22,10 +20,7 @@ impl Pile {
     pub fn latest(&self) -> Option<i32>
         ensures value { result ≡ top self.now.numbering self.now.len }
     {
-        if self.len == 0 {
-            return None;
-        }
-        Some(numbered(self.numbering, self.len - 1))
+        self.numbering.latest(self.len)
     }
 
     // Lays a mark on the pile, which must have the next number; else it is handed back.
@@ -36,19 +31,13 @@ impl Pile {
         ensures numbering { self.new.numbering ≡ self.old.numbering }
         ensures unspent { IfErr result (λ k. k.mark.spent ≡ mark.spent) }
     {
-        if self.len >= MOST_MARKS {
-            return Err(Kept {
-                mark,
-                refusal: Refusal::MarksUsedUp,
-            });
+        let Some(more) = self.len.checked_add(1) else {
+            return Err(mark.refused(Refusal::MarksUsedUp));
+        };
+        if self.numbering.next(self.len) != mark.number {
+            return Err(mark.refused(Refusal::WrongMark));
         }
-        if !same(numbered(self.numbering, self.len), mark.number) {
-            return Err(Kept {
-                mark,
-                refusal: Refusal::WrongMark,
-            });
-        }
-        self.len += 1;
+        self.len = more;
         mark.spend();
         Ok(())
     }
@@ -60,14 +49,8 @@ impl Pile {
         ensures numbering { self.new.numbering ≡ self.old.numbering }
         ensures unspent { IfSome result (λ m. m.spent ≡ false) }
     {
-        if self.len == 0 {
-            return None;
-        }
+        let number = self.latest()?;
         self.len -= 1;
-        let number = numbered(self.numbering, self.len);
-        Some(Mark {
-            number,
-            spent: false,
-        })
+        Some(Mark::new(number))
     }
 }
