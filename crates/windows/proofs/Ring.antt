@@ -1,10 +1,10 @@
 -- A row of indexes in a ring of places. Assumes nothing.
-use Rattle.std.proofs.Common.{◌≡◌, ℕ, zero, suc, ◌+◌, ◌-◌, ◌%◌, ◌<◌, ◌≤◌, min, true, false, ltb, leb, ◌≢◌, List, [], ◌∷◌, ◌++◌, length, get_or, drop, set, Some, None, sym, refl, ap, ◌∙◌, add-zero, arith}
+use Rattle.std.proofs.Common.{◌≡◌, ℕ, zero, suc, ◌+◌, ◌-◌, ◌%◌, ◌<◌, ◌≤◌, min, max, true, false, ltb, leb, ◌≢◌, ◌⊎◌, List, [], ◌∷◌, ◌++◌, length, get_or, drop, set, Some, None, sym, refl, ap, ◌∙◌, ⊎_elim, add-zero, arith}
 use Rattle.std.specs.List.{slice_get}
 use Rattle.std.proofs.lemmas.List.{get_or-set_same, get_or-set_other, set-set}
 use Rattle.std.proofs.lemmas.List.FromFn.{length-map-range_with_len, get_or-map-range_with_len, map-range_with_len_more}
 use Rattle.std.proofs.lemmas.Option.{slice_get-get_or, slice_get_past}
-use Rattle.std.proofs.lemmas.Bool.{le-leb, lt-leb, le-ltb, lt-ltb, cond-true, cond-false, or_left, or_right, or_from}
+use Rattle.std.proofs.lemmas.Bool.{le-leb, lt-leb, le-ltb, lt-ltb, cond-true, cond-false, or_left, or_right, or_from, cases_lt}
 use Rattle.tokens.specs.declared.token.Token.{Token}
 use Rattle.windows.specs.Lists.{stamped, blank}
 use Rattle.windows.specs.Windows.{View, ring, end, full, pushed, token_of, without}
@@ -97,11 +97,14 @@ module _ (places : List Token) (capacity start last : ℕ) (ordered : start ≤ 
       ∙ more ∙ ap (λ t. v.tokens ++ t ∷ []) (is ∙ ap (λ i. stamped i k) (sym at))
       ∙ sym (cond-false (full v) v.tokens (v.tokens ++ stamped (end v) k ∷ []) free))
 
-  pub get_below : (i : ℕ) → i < start → None ≡ token_of (seen places capacity start last) i
-  get_below i h = sym (cond-true (ltb i start) None _ (lt-ltb i start h))
+  pub get_outside : (i : ℕ) → (i < start) ⊎ (last ≤ i) → None ≡ token_of (seen places capacity start last) i
+  get_outside i h = ⊎_elim below past (cases_lt i start)
+    where
+      below : i < start → None ≡ token_of (seen places capacity start last) i
+      below low = sym (cond-true (ltb i start) None _ (lt-ltb i start low))
 
-  pub get_past : (i : ℕ) → start ≤ i → last ≤ i → None ≡ token_of (seen places capacity start last) i
-  get_past i low h = ring_past places start last i h ∙ sym (cond-false (ltb i start) None _ (le-ltb i start low))
+      past : start ≤ i → None ≡ token_of (seen places capacity start last) i
+      past low = ring_past places start last i (omega (arith, h)) ∙ sym (cond-false (ltb i start) None _ (le-ltb i start low))
 
   pub get_held : (i : ℕ) (k : Token) → start ≤ i → i < last → k ≡ get_or places (i % 2048) blank → Some k ≡ token_of (seen places capacity start last) i
   get_held i k low high is = ring_at places start last i k low high is ∙ sym (cond-false (ltb i start) None _ (le-ltb i start low))
@@ -113,17 +116,7 @@ module _ (places : List Token) (capacity start last : ℕ) (ordered : start ≤ 
       (λ j. record { start = start + n; tokens = (ap (ring places (start + n)) fewer ∙ ring_drop places (last - start) n start) j; capacity = capacity })
       ∙ ap (λ m. record { start = start + m; tokens = drop m (ring places start (last - start)); capacity = capacity }) e
 
-  pub drop_all_held : (i : ℕ) → last < i → seen places capacity last last ≡ without (seen places capacity start last) i
-  drop_all_held i h =
-      let on : last ≡ start + (last - start) = omega arith in
-      ap (λ s. seen places capacity s last) on ∙ without_is i (last - start) (omega (arith, length_seen))
-
-  pub drop_some_held : (i : ℕ) → start < i → i ≤ last → seen places capacity i last ≡ without (seen places capacity start last) i
-  drop_some_held i low high =
-      let on : i ≡ start + (i - start) = omega arith in
-      ap (λ s. seen places capacity s last) on ∙ without_is i (i - start) (omega (arith, length_seen))
-
-  pub drop_none_held : (i : ℕ) → i ≤ start → seen places capacity start last ≡ without (seen places capacity start last) i
-  drop_none_held i low =
-      let on : start ≡ start + 0 = omega arith in
-      ap (λ s. seen places capacity s last) on ∙ without_is i 0 (omega (arith, length_seen))
+  pub drop_held : (i s : ℕ) → s ≡ max start (min i last) → seen places capacity s last ≡ without (seen places capacity start last) i
+  drop_held i s e =
+      let on : s ≡ start + min (i - start) (last - start) = omega (arith, e) in
+      ap (λ s. seen places capacity s last) on ∙ without_is i (min (i - start) (last - start)) (ap (min (i - start)) (sym length_seen))

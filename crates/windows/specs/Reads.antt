@@ -1,5 +1,5 @@
 -- Tokens and texts by their indexes, out of what is held. Assumes nothing.
-use Rattle.std.specs.Prelude.{ℕ, ◌-◌, cond, List, [], ◌∷◌, ℤ, pos, negsuc, int_lt, nat_le, nat_lt, slice_index_or}
+use Rattle.std.specs.Prelude.{ℕ, ◌-◌, cond, List, [], ◌∷◌, ℤ, pos, negsuc, Some, None, Option, int_lt, nat_le, nat_lt, slice_index_or}
 use Rattle.std.specs.List.{between, flat_map}
 use Rattle.refusals.specs.Answers.{Answer, gives, refuses, unless, if_given}
 use Rattle.refusals.specs.Outputs.{written, overwritten}
@@ -22,9 +22,18 @@ abbrev pub before_eof : List Token → List Token
 before_eof [] = []
 before_eof (k ∷ ks) = cond (is_eof k) [] (k ∷ before_eof ks)
 
+-- a token, if there is one and it is no EOF
+abbrev pub unless_eof : Option Token → Option Token
+unless_eof None = None
+unless_eof (Some k) = cond (is_eof k) None (Some k)
+
 -- the texts of tokens, one after the other, up to the EOF
 abbrev pub texts_of : (Token → List ℕ) → List Token → List ℕ
 texts_of text ks = flat_map text (before_eof ks)
+
+-- the texts of the tokens from one index on and below another
+abbrev pub texts_between : (Token → List ℕ) → View → ℕ → ℕ → List ℕ
+texts_between text v i j = texts_of text (between (i - v.start) (j - v.start) v.tokens)
 
 -- whether the tokens from start through stop are held: 5 negative, 13 bad interval, 4 dropped, 6 not held
 abbrev pub interval_held : View → ℤ → ℤ → Answer (Unit {0})

@@ -36,10 +36,12 @@ impl<S: TokenSource> Buffer<S> {
     fn at_end(&self) -> bool
         ensures value { result ≡ at_end (view self.now.window) }
     {
-        match self.window.get(self.window.end().saturating_sub(1)) {
-            Some(token) => token.is_eof(),
-            None => false,
-        }
+        let last = self
+            .window
+            .end()
+            .checked_sub(1)
+            .and_then(|last| self.window.get(last));
+        last.is_some_and(|token| token.is_eof())
     }
 
     // Whether one token more must be pulled to see the one of an index, and can be.
@@ -77,11 +79,7 @@ impl<S: TokenSource> Buffer<S> {
     fn within_reach(&self, index: usize) -> Option<usize>
         ensures value { result ≡ within_reach (view self.now.window) index }
     {
-        if index < self.window.reach() {
-            Some(index)
-        } else {
-            None
-        }
+        (index < self.window.reach()).then_some(index)
     }
 
     // The index where an index is seen in what is held: its own, or the EOF's.
@@ -90,12 +88,12 @@ impl<S: TokenSource> Buffer<S> {
     {
         let end = self.window.end();
         if index < end {
-            return self.within_reach(index);
+            self.within_reach(index)
+        } else if self.at_end() {
+            self.within_reach(end.saturating_sub(1))
+        } else {
+            None
         }
-        if self.at_end() {
-            return self.within_reach(end.saturating_sub(1));
-        }
-        None
     }
 
     // The index where the token of an index is seen: its own, or the EOF's where the list is shorter. It is pulled; none
@@ -120,19 +118,14 @@ impl<S: TokenSource> Buffer<S> {
         if index < self.window.start() {
             return Err(Refusal::Dropped);
         }
-        match self.window.get(index) {
-            Some(token) => Ok(token),
-            None => Err(Refusal::NotHeld),
-        }
+        self.window.get(index).ok_or(Refusal::NotHeld)
     }
 
     // The same for any number.
     pub fn get(&self, index: i32) -> Result<Token, Refusal>
         ensures value { answer result ≡ token_answer (view self.now.window) index }
     {
-        if index < 0 {
-            return Err(Refusal::Negative);
-        }
-        self.find(index as usize)
+        let index = usize::try_from(index).map_err(|_| Refusal::Negative)?;
+        self.find(index)
     }
 }

@@ -1,13 +1,13 @@
 // The texts of held tokens.
-ghost use Rattle.std.specs.Prelude.{◌≡◌, ◌-◌, ◌≤◌, not, ◌++◌, length, drop, nat_lt};
-ghost use Rattle.std.specs.List.{between};
+ghost use Rattle.std.specs.Prelude.{◌≡◌, ◌≤◌, not, ◌++◌, length, drop, nat_lt};
 ghost use Rattle.refusals.specs.Answers.{answer};
-ghost use Rattle.windows.specs.Windows.{view, end};
-ghost use Rattle.windows.specs.Reads.{texts_of, interval_held, text_answer, text_after};
+ghost use Rattle.windows.specs.Windows.{view, token_of};
+ghost use Rattle.windows.specs.Reads.{unless_eof, texts_between, interval_held, text_answer, text_after};
 
 use crate::buffer::Buffer;
 use characters::char_stream::{backward, past, upward};
 use refusals::Refusal;
+use tokens::token::Token;
 use tokens::token_source::TokenSource;
 
 impl<S: TokenSource> Buffer<S> {
@@ -30,51 +30,48 @@ impl<S: TokenSource> Buffer<S> {
         Ok(())
     }
 
-    // Whether the texts of the tokens from one index on and below another fit a room.
+    // The token of an index, if it is held and is no EOF.
+    fn before_eof(&self, index: usize) -> Option<Token>
+        ensures value { result ≡ unless_eof (token_of (view self.now.window) index) }
+    {
+        self.window.get(index).filter(|token| !token.is_eof())
+    }
+
+    // Whether the texts of the tokens from one index on and below another fit a room. The two are no `Range`, which would be
+    // cloned for each of the walks.
     fn fits(&self, from: usize, to: usize, room: usize) -> bool
-        requires held { ((view self.now.window).start ≤ from) × (to ≤ end (view self.now.window)) }
-        ensures value { result ≡ not (nat_lt room (length (texts_of (S.TokenSource.text self.now.source) (between (from - (view self.now.window).start) (to - (view self.now.window).start) (view self.now.window).tokens)))) }
+        requires held { (view self.now.window).start ≤ from }
+        ensures value { result ≡ not (nat_lt room (length (texts_between (S.TokenSource.text self.now.source) (view self.now.window) from to))) }
     {
         let mut left = room;
-        let mut at = from;
-        'sum: while at < to {
-            let Some(token) = self.window.get(at) else {
+        'sum: for at in from..to {
+            let Some(token) = self.before_eof(at) else {
                 return true;
             };
-            if token.is_eof() {
-                return true;
-            }
-            let len = self.source.text_len(&token);
-            if left < len {
+            let Some(rest) = left.checked_sub(self.source.text_len(&token)) else {
                 return false;
-            }
-            left -= len;
-            at += 1;
+            };
+            left = rest;
         }
         true
     }
 
     // Writes the texts of the tokens from one index on and below another into an output that they fit.
     fn put(&self, from: usize, to: usize, out: &mut [u8]) -> usize
-        requires held { ((view self.now.window).start ≤ from) × (to ≤ end (view self.now.window)) }
-        requires fits { length (texts_of (S.TokenSource.text self.now.source) (between (from - (view self.now.window).start) (to - (view self.now.window).start) (view self.now.window).tokens)) ≤ length out.old }
-        ensures value { result ≡ length (texts_of (S.TokenSource.text self.now.source) (between (from - (view self.now.window).start) (to - (view self.now.window).start) (view self.now.window).tokens)) }
-        ensures after { out.new ≡ texts_of (S.TokenSource.text self.now.source) (between (from - (view self.now.window).start) (to - (view self.now.window).start) (view self.now.window).tokens) ++ drop result out.old }
+        requires held { (view self.now.window).start ≤ from }
+        requires fits { length (texts_between (S.TokenSource.text self.now.source) (view self.now.window) from to) ≤ length out.old }
+        ensures value { result ≡ length (texts_between (S.TokenSource.text self.now.source) (view self.now.window) from to) }
+        ensures after { out.new ≡ texts_between (S.TokenSource.text self.now.source) (view self.now.window) from to ++ drop result out.old }
     {
         let mut len = 0;
-        let mut at = from;
-        'put: while at < to {
-            let Some(token) = self.window.get(at) else {
+        'put: for at in from..to {
+            let Some(token) = self.before_eof(at) else {
                 return len;
             };
-            if token.is_eof() {
-                return len;
-            }
             let end = len + self.source.text_len(&token);
             // The text fits, since the part has its length.
             let _ = self.source.write_text(&token, &mut out[len..end]);
             len = end;
-            at += 1;
         }
         len
     }

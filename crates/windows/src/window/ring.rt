@@ -16,7 +16,7 @@ const MOST_CAPACITY: i32 = 2048;
 // A source's list has no more.
 pub const MOST_TOKENS: usize = 1_048_576;
 
-// What stands in a place that holds no token yet.
+// What stands in a place that holds no token yet: the places are a plain array of token records.
 pub const BLANK: Token = Token {
     token_type: 0,
     channel: 0,
@@ -66,10 +66,7 @@ impl Window {
         ensures value { answer result ≡ admission capacity }
         ensures after { view self.new ≡ admitted (view self.old) capacity }
     {
-        if capacity < LEAST_CAPACITY {
-            return Err(Refusal::Capacity);
-        }
-        if capacity > MOST_CAPACITY {
+        if !(LEAST_CAPACITY..=MOST_CAPACITY).contains(&capacity) {
             return Err(Refusal::Capacity);
         }
         self.capacity = capacity as usize;
@@ -80,10 +77,7 @@ impl Window {
     pub fn push(&mut self, token: Token)
         ensures after { view self.new ≡ pushed (view self.old) token }
     {
-        if self.end - self.start >= PLACES {
-            return;
-        }
-        if self.end >= MOST_TOKENS {
+        if self.end - self.start >= PLACES || self.end >= MOST_TOKENS {
             return;
         }
         let place = self.end % PLACES;
@@ -96,10 +90,7 @@ impl Window {
     pub fn get(&self, index: usize) -> Option<Token>
         ensures value { result ≡ token_of (view self.now) index }
     {
-        if index < self.start {
-            return None;
-        }
-        if index >= self.end {
+        if !(self.start..self.end).contains(&index) {
             return None;
         }
         Some(self.places[index % PLACES])
@@ -109,10 +100,6 @@ impl Window {
     pub fn drop_below(&mut self, index: usize)
         ensures after { view self.new ≡ without (view self.old) index }
     {
-        if index > self.end {
-            self.start = self.end;
-        } else if index > self.start {
-            self.start = index;
-        }
+        self.start = index.clamp(self.start, self.end);
     }
 }

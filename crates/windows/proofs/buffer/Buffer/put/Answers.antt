@@ -1,50 +1,35 @@
-use Rattle.std.proofs.Common.{◌≡◌, ◌+◌, ◌≤◌, length, sym, ◌∙◌, arith, rules}
+use Rattle.std.proofs.Common.{◌≡◌, ◌+◌, ◌≤◌, length, ◌∙◌, arith, rules}
 use Rattle.std.specs.List.{between}
 use Rattle.std.proofs.lemmas.List.Edits.{length-between}
 use Rattle.windows.specs.Windows.{view}
-use Rattle.windows.proofs.Texts.{put_none, put_end, put_more, put_stop, put_all, not_held, just_written}
+use Rattle.windows.proofs.Texts.{put_end, put_more, put_stop, just_written}
 use Rattle.windows.proofs.buffer.Buffer.put.Goals as goal
-
-pub put-init : goal.put-init
-put-init g c = (put_none (g.S.TokenSource.text c.args.self.now.source) (view c.args.self.now.window) c.args.from c.args.to c.args.out.now c.requires.fits, omega arith)
 
 pub overflow_add-end : goal.overflow_add-end
 overflow_add-end g c =
-    let low : (view c.args.self.now.window).start ≤ c.put.at = omega (arith, c.requires.held.0, c.put.invariant.1) in
-    let within = put_end (g.S.TokenSource.text c.args.self.now.source) (view c.args.self.now.window) c.args.from c.args.to c.put.at c.put.len c.in-Some.token _ _ low c.put-test.true c.requires.held.1 c.in-Some.ensures.value c.put.invariant.0 c.text_len.result c.if-is_eof.ensures.value c.text_len.ensures.value in
+    let low : (view c.args.self.now.window).start ≤ c.put.at = omega (arith, c.requires.held) in
+    let within = put_end (g.S.TokenSource.text c.args.self.now.source) (view c.args.self.now.window) c.args.from c.args.to c.put.at c.put.len c.in-Some.token _ _ low c.put-test.true c.in-Some.ensures.value c.put.invariant c.text_len.result c.text_len.ensures.value in
     search rules
 
 pub slice_bounds-write_text-end : goal.slice_bounds-write_text-end
 slice_bounds-write_text-end g c =
-    let low : (view c.args.self.now.window).start ≤ c.put.at = omega (arith, c.requires.held.0, c.put.invariant.1) in
-    put_end (g.S.TokenSource.text c.args.self.now.source) (view c.args.self.now.window) c.args.from c.args.to c.put.at c.put.len c.in-Some.token _ _ low c.put-test.true c.requires.held.1 c.in-Some.ensures.value c.put.invariant.0 c.text_len.result c.if-is_eof.ensures.value c.text_len.ensures.value
+    let low : (view c.args.self.now.window).start ≤ c.put.at = omega (arith, c.requires.held) in
+    put_end (g.S.TokenSource.text c.args.self.now.source) (view c.args.self.now.window) c.args.from c.args.to c.put.at c.put.len c.in-Some.token _ _ low c.put-test.true c.in-Some.ensures.value c.put.invariant c.text_len.result c.text_len.ensures.value
 
 pub returns-in_default : goal.returns-in_default
 returns-in_default g c =
     let v = view c.args.self.now.window in
-    let low : v.start ≤ c.put.at = omega (arith, c.requires.held.0, c.put.invariant.1) in
-    absurd (not_held (g.S.TokenSource.text c.args.self.now.source) v c.put.at c.args.to low c.put-test.true c.requires.held.1 c.in_default.ensures.value)
-
-pub returns-then-is_eof : goal.returns-then-is_eof
-returns-then-is_eof g c =
-    let v = view c.args.self.now.window in
-    let low : v.start ≤ c.put.at = omega (arith, c.requires.held.0, c.put.invariant.1) in
-    let done = put_stop (g.S.TokenSource.text c.args.self.now.source) v c.args.from c.args.to c.put.at c.put.len c.in-Some.token _ _ low c.put-test.true c.requires.held.1 c.in-Some.ensures.value c.put.invariant.0 (sym c.if-is_eof.ensures.value) in
+    let low : v.start ≤ c.put.at = omega (arith, c.requires.held) in
+    let done = put_stop (g.S.TokenSource.text c.args.self.now.source) v c.args.from c.args.to c.put.at c.put.len _ _ low c.put-test.true c.in_default.ensures.value c.put.invariant in
     record { value = done.0; after = done.1 }
 
 pub put-preserved : goal.put-preserved
 put-preserved g c =
     let v = view c.args.self.now.window in
     let text = g.S.TokenSource.text c.args.self.now.source in
-    let low : v.start ≤ c.put.at = omega (arith, c.requires.held.0, c.put.invariant.1) in
+    let low : v.start ≤ c.put.at = omega (arith, c.requires.held) in
     let end = c.put.len + c.text_len.result in
-    let within : end ≤ length c.put.out = put_end text v c.args.from c.args.to c.put.at c.put.len c.in-Some.token _ _ low c.put-test.true c.requires.held.1 c.in-Some.ensures.value c.put.invariant.0 c.text_len.result c.if-is_eof.ensures.value c.text_len.ensures.value in
+    let within : end ≤ length c.put.out = put_end text v c.args.from c.args.to c.put.at c.put.len c.in-Some.token _ _ low c.put-test.true c.in-Some.ensures.value c.put.invariant c.text_len.result c.text_len.ensures.value in
     let wide : length (between c.put.len end c.put.out) ≡ length (text c.in-Some.token) = omega (arith, length-between c.put.out c.put.len end within, c.text_len.ensures.value) in
     let written = c.write_text.ensures.after ∙ just_written (text c.in-Some.token) (between c.put.len end c.put.out) wide in
-    let more = put_more text v c.args.from c.args.to c.put.at c.put.len c.in-Some.token _ _ low c.put-test.true c.requires.held.1 c.in-Some.ensures.value c.put.invariant.0 c.text_len.result c.write_text.new.out c.if-is_eof.ensures.value c.text_len.ensures.value written in
-    (more, omega (arith, c.put.invariant.1))
-
-pub returns : goal.returns
-returns g c =
-    let done = put_all (g.S.TokenSource.text c.args.self.now.source) (view c.args.self.now.window) c.args.from c.args.to c.put.at c.put.len _ _ c.put-test.false c.put.invariant.0 in
-    record { value = done.0; after = done.1 }
+    put_more text v c.args.from c.args.to c.put.at c.put.len c.in-Some.token _ _ low c.put-test.true c.in-Some.ensures.value c.put.invariant c.text_len.result c.write_text.new.out c.text_len.ensures.value written

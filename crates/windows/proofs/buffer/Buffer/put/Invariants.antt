@@ -1,10 +1,6 @@
-use Rattle.std.proofs.Common.{◌-◌, ◌≤◌}
 use Rattle.windows.specs.Windows.{view}
 use Rattle.windows.proofs.Texts.{Put}
 use Rattle.windows.proofs.buffer.Buffer.put.Given as goal
 
 abbrev pub invariant-put : goal.invariant-put
-invariant-put g l = Put (g.S.TokenSource.text l.self.source) (view l.self.window) l.from l.to l.at l.len l.initial.out l.out × (l.from ≤ l.at)
-
-abbrev pub decreases-put : goal.decreases-put
-decreases-put g l = l.to - l.at
+invariant-put g l = Put (g.S.TokenSource.text l.self.source) (view l.self.window) l.from l.to l.at l.len l.initial.out l.out

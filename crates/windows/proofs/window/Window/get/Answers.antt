@@ -1,13 +1,17 @@
-use Rattle.std.proofs.Common.{refl}
-use Rattle.windows.proofs.Ring.{get_past, get_held}
+use Rattle.std.proofs.Common.{◌<◌, ◌≤◌, ◌⊎◌, refl, arith}
+use Rattle.std.proofs.lemmas.Grind.{common_steps}
+use Rattle.windows.proofs.Ring.{get_outside, get_held}
 use Rattle.windows.proofs.window.Window.get.Goals as goal
 
-pub returns-then-index-self-2 : goal.returns-then-index-self-2
-returns-then-index-self-2 c =
+pub returns-then-not-contains : goal.returns-then-not-contains
+returns-then-not-contains c =
     let self = c.args.self.now in
-    record { value = get_past self.places self.capacity self.start self.end self.ordered c.args.index c.if-index-self.false c.if-index-self-2.true }
+    let outside : (c.args.index < self.start) ⊎ (self.end ≤ c.args.index) = grind (arith, common_steps) in
+    record { value = get_outside self.places self.capacity self.start self.end self.ordered c.args.index outside }
 
 pub returns : goal.returns
 returns c =
     let self = c.args.self.now in
-    record { value = get_held self.places self.capacity self.start self.end self.ordered c.args.index _ c.if-index-self.false c.if-index-self-2.false refl }
+    let low : self.start ≤ c.args.index = grind (arith, common_steps) in
+    let high : c.args.index < self.end = grind (arith, common_steps) in
+    record { value = get_held self.places self.capacity self.start self.end self.ordered c.args.index _ low high refl }

@@ -3,17 +3,16 @@ use Rattle.std.proofs.lemmas.Int.{ints}
 use Rattle.std.proofs.lemmas.List.{get_or-set_same}
 use Rattle.tokens.specs.Tokens.{with_index}
 use Rattle.windows.proofs.Ring.{push_full, push_late, push_one}
+use Rattle.windows.proofs.window.Window.push.Goals.{then-self-ge-PLACES-via-then-self-ge-PLACES, then-self-ge-PLACES-via-else-self-ge-PLACES+then-self-ge-MOST_TOKENS}
 use Rattle.windows.proofs.window.Window.push.Goals as goal
 
 pub returns-then-self-ge-PLACES : goal.returns-then-self-ge-PLACES
 returns-then-self-ge-PLACES c =
     let self = c.args.self.now in
-    record { after = push_full self.places self.capacity self.start self.end self.ordered c.args.token (omega arith) }
-
-pub returns-then-self-ge-MOST_TOKENS : goal.returns-then-self-ge-MOST_TOKENS
-returns-then-self-ge-MOST_TOKENS c =
-    let self = c.args.self.now in
-    record { after = push_late self.places self.capacity self.start self.end self.ordered c.args.token (omega arith) }
+    elim c.then-self-ge-PLACES.branch [
+      | then-self-ge-PLACES-via-then-self-ge-PLACES w ↦ record { after = push_full self.places self.capacity self.start self.end self.ordered c.args.token (omega arith) }
+      | then-self-ge-PLACES-via-else-self-ge-PLACES+then-self-ge-MOST_TOKENS w ↦ record { after = push_late self.places self.capacity self.start self.end self.ordered c.args.token (omega arith) }
+    ]
 
 pub returns : goal.returns
 returns c =
