@@ -23,9 +23,6 @@ just_written bytes out e =
 abbrev pub part : View → ℕ → ℕ → List Token
 part v i j = between (i - v.start) (j - v.start) v.tokens
 
-pub part_none : (v : View) (i j : ℕ) → j ≤ i → part v i j ≡ []
-part_none v i j h = let none : j - v.start - (i - v.start) ≡ 0 = omega arith in ap (λ n. take n (drop (i - v.start) v.tokens)) none
-
 -- no token of an index is held from the window's end on
 held_below : (v : View) (i : ℕ) (k : Token) → Some k ≡ token_of v i → i < end v
 held_below v i k is = ⊎_elim (λ l. l) (λ l. let z : ◌≡◌ {A = ℕ} 0 1 = cc (is ∙ token_past v i l) in absurd (omega arith)) (cases_lt i (end v))
@@ -114,9 +111,6 @@ module _ (text : Token → List ℕ) where
     pub all : done ++ texts_of text (part v at to) ≡ texts_of text (part v from to)
     pub is : out ≡ done ++ drop len old
     pub fits : length (texts_of text (part v from to)) ≤ length old
-
-  pub put_none : (v : View) (from to : ℕ) (old : List ℕ) → length (texts_of text (part v from to)) ≤ length old → Put v from to from 0 old old
-  put_none v from to old h = record { done = []; long = refl; all = refl; is = refl; fits = h }
 
   put_done : (v : View) (from to at len : ℕ) (old out : List ℕ) → texts_of text (part v at to) ≡ [] → Put v from to at len old out → (len ≡ length (texts_of text (part v from to))) × (out ≡ texts_of text (part v from to) ++ drop len old)
   put_done v from to at len old out none p =

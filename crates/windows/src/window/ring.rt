@@ -80,6 +80,7 @@ impl Window {
         if self.end - self.start >= PLACES || self.end >= MOST_TOKENS {
             return;
         }
+        // The token is stamped in its place, which lends it.
         let place = self.end % PLACES;
         self.places[place] = token;
         self.places[place].set_token_index(self.end as i32);
