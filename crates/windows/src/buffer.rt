@@ -36,12 +36,8 @@ impl<S: TokenSource> Buffer<S> {
     fn at_end(&self) -> bool
         ensures value { result ≡ at_end (view self.now.window) }
     {
-        let last = self
-            .window
-            .end()
-            .checked_sub(1)
-            .and_then(|last| self.window.get(last));
-        last.is_some_and(|token| token.is_eof())
+        let last = self.window.end().saturating_sub(1);
+        self.window.get(last).is_some_and(|token| token.is_eof())
     }
 
     // Whether one token more must be pulled to see the one of an index, and can be.
