@@ -1,5 +1,5 @@
 -- Tokens and texts by their indexes. Assumes nothing.
-use Rattle.std.proofs.Common.{◌≡◌, ℕ, ◌+◌, ◌-◌, ◌<◌, ◌≤◌, Bool, true, false, ltb, leb, List, get_or, take, drop, ℤ, pos, negsuc, sym, refl, ap, ◌∙◌, ⊎_elim, arith}
+use Rattle.std.proofs.Common.{◌≡◌, ℕ, ◌+◌, ◌-◌, ◌<◌, ◌≤◌, Bool, true, false, ltb, leb, List, get_or, take, drop, ℤ, pos, negsuc, Option, sym, refl, ap, ◌∙◌, ⊎_elim, arith}
 use lib.Signed.{lt_z}
 use Rattle.std.specs.List.{between}
 use Rattle.std.proofs.lemmas.List.{take-take, drop-take, drop-drop}
@@ -31,7 +31,7 @@ inner ts s e a b low mid high =
     ∙ ap (take (b - s - (a - s))) (drop-take (a - s) (e - a) (drop s ts) ∙ ap (take (e - a)) (drop-drop (a - s) s ts ∙ ap (λ n. drop n ts) at))
     ∙ take-take (b - s - (a - s)) (e - a) (drop a ts) (omega arith) ∙ ap (λ n. take n (drop a ts)) count
 
-module _ (u : Unbuffered) (v : View) (coming : List Token) (text : Token → List ℕ) (cursor : ℕ) (before : Token) (status : Status) (t : Together u v coming text cursor before status) (is_open : u.status.opened ≡ true) where
+module _ {u : Unbuffered} {v : View} {coming : List Token} {text : Token → List ℕ} {cursor : ℕ} {before : Option Token} {status : Status} (t : Together u v coming text cursor before status) (is_open : u.status.opened ≡ true) where
   found : (i : ℕ) → token_answer v (pos i) ≡ unless (ltb i u.floor) 4 (unless (leb u.pulled i) 6 (gives (token_at u i)))
   found i =
       (λ n. unless (ltb i (t.same_floor n)) 4 (unless (leb (t.same_pulled n) i) 6 (gives (get_or v.tokens (i - v.start) blank))))

@@ -1,5 +1,5 @@
 -- Marks that are made and come back. Assumes nothing.
-use Rattle.std.proofs.Common.{◌≡◌, ℕ, ◌-◌, ◌<◌, Bool, true, false, leb, List, [], ◌∷◌, length, ℤ, negsuc, sym, refl, ap, ◌∙◌, subst, arith}
+use Rattle.std.proofs.Common.{◌≡◌, ℕ, ◌-◌, ◌<◌, Bool, true, false, leb, List, [], ◌∷◌, length, ℤ, negsuc, Some, Option, sym, refl, ap, ◌∙◌, subst, arith}
 use Rattle.std.proofs.lemmas.Bool.{cond-true, false≢true}
 use Rattle.refusals.specs.Answers.{gives, unless, if_given}
 use Rattle.tokens.specs.declared.token.Token.{Token}
@@ -36,7 +36,7 @@ marking_keeps ms n e = go (leb 255 (length ms)) e
     go true e = e
     go false e = let z : ◌≡◌ {A = ℕ} 0 1 = cc in absurd (omega arith)
 
-module _ (u : Unbuffered) (v : View) (coming : List Token) (text : Token → List ℕ) (cursor : ℕ) (before : Token) (status : Status) (t : Together u v coming text cursor before status) where
+module _ {u : Unbuffered} {v : View} {coming : List Token} {text : Token → List ℕ} {cursor : ℕ} {before : Option Token} {status : Status} (t : Together u v coming text cursor before status) where
   -- marks that leave the floor where it is
   pub together_marked : (ms : List ℤ) (st : Status) → (ms ≡ [] → u.status.marks ≡ []) → st ≡ status_with u.status ms → Together (with_status u (status_with u.status ms)) v coming text cursor before st
   together_marked [] st keeps e =
@@ -57,14 +57,14 @@ module _ (u : Unbuffered) (v : View) (coming : List Token) (text : Token → Lis
         room = t.room;
         sees = λ o. let n = t.room o in omega arith;
         at_rest = λ _. refl;
-        token_before = subst (λ f. 0 < f → before ≡ token_at u (f - 1)) rest t.token_before;
+        token_before = subst (λ f. 0 < f → before ≡ Some (token_at u (f - 1))) rest t.token_before;
       }
   together_marked (m ∷ ms) st keeps e =
       subst (λ n. Together (with_status u (status_with u.status (m ∷ ms))) v coming text n before st) (sym t.same_cursor)
-      (together_rests u v coming text cursor before status t u.cursor t.above_floor t.seen t.on_token (status_with u.status (m ∷ ms)) refl t.sees (λ c. refl) false tt st e)
+      (together_rests t u.cursor t.above_floor t.seen t.on_token (status_with u.status (m ∷ ms)) refl t.sees (λ c. refl) false tt st e)
 
   -- marks that may let the floor come to the cursor
   pub together_released : (ms : List ℤ) (st : Status) (b : Bool) → Frees b ms → st ≡ status_with u.status ms → Together (with_status u (status_with u.status ms)) (settled_view b v cursor) coming text cursor (settled_before b v cursor before) st
   together_released ms st b f e =
       subst (λ n. Together (with_status u (status_with u.status ms)) (settled_view b v n) coming text n (settled_before b v n before) st) (sym t.same_cursor)
-      (together_rests u v coming text cursor before status t u.cursor t.above_floor t.seen t.on_token (status_with u.status ms) refl t.sees (λ c. refl) b f st e)
+      (together_rests t u.cursor t.above_floor t.seen t.on_token (status_with u.status ms) refl t.sees (λ c. refl) b f st e)

@@ -263,13 +263,3 @@ feed_seek u (pos i) = go u.status.opened (ltb i u.floor) (calls.sought u i)
     go true false (gives x) = refl
     go true false (refuses n) = refl
     go false c a = refl
-
--- and a look leaves the symbols as they are
-pub stream_lt : (u : Unbuffered) (k : ℤ) → stream_of u ≡ stream_of (calls.after_lt u k)
-stream_lt u k = go u.status.opened k
-  where
-    go : (b : Bool) (k : ℤ) → stream_of u ≡ stream_of (cond b (calls.looked_for u k) u)
-    go true (pos zero) = refl
-    go true (pos (suc k)) = refl
-    go true (negsuc k) = refl
-    go false k = refl

@@ -1,42 +1,18 @@
 -- How the parts of a stream hold together from call to call. Assumes nothing.
-use Rattle.std.proofs.Common.{◌≡◌, ℕ, zero, suc, ◌+◌, ◌-◌, ◌<◌, ◌≤◌, Bool, true, false, eqb, ltb, List, [], ◌∷◌, length, ℤ, Some, None, sym, refl, ap, ◌∙◌, subst, ⊎_elim, arith}
+use Rattle.std.proofs.Common.{◌≡◌, ℕ, zero, suc, ◌+◌, ◌-◌, ◌<◌, ◌≤◌, Bool, true, false, eqb, ltb, List, [], ◌∷◌, length, ℤ, Some, None, Option, sym, refl, ap, ◌∙◌, subst, ⊎_elim, arith}
+use Rattle.std.specs.Option.{option_or}
 use Rattle.std.proofs.lemmas.Bool.{lt-ltb, le-ltb, cond-true, cond-false, cases_lt, ne_eqb, false≢true}
 use Rattle.tokens.specs.declared.token.Token.{Token}
-use Rattle.tokens.specs.Tokens.{Lawful}
 use Rattle.streams.specs.Streams.{Status, sliding, resting}
 use Rattle.streams.specs.declared.mark.Numbering.{Numbering}
 use Rattle.streams.specs.Marks.{numbers}
 use Rattle.windows.specs.Windows as window
 use Rattle.windows.specs.Windows.{View, end, token_of, without}
 use Rattle.windows.specs.Held.{Holds, pulled_to, seen_at}
-use Rattle.windows.proofs.Stamps.{some_token}
 use Rattle.windows.proofs.Held.{token_below, token_held, start_without, end_without, holds_without}
-use Rattle.token_streams.specs.Unbuffered.{Feed, Unbuffered, token_at, reach, clamped, needed, unopened}
-use Rattle.token_streams.specs.Settled.{settled_view, or_else, settled_before}
+use Rattle.token_streams.specs.Unbuffered.{Unbuffered, token_at, reach, clamped, needed}
+use Rattle.token_streams.specs.Settled.{settled_view, settled_before}
 use Rattle.token_streams.specs.Shown.{Together}
-
--- a stream that was just made
-pub together_new : (f : Feed) (b : Token) → Lawful f.list → Together (unopened f) (record { start = 0; tokens = []; capacity = 0 }) f.list f.text 0 b (unopened f).status
-together_new f b ok =
-    let some = some_token f.list ok.ended in
-    record {
-      holds = record { ended = ok.ended; few = ok.few; begun = some; within = omega arith; held = refl; rest = λ l. refl };
-      same_text = refl;
-      same_status = refl;
-      same_capacity = refl;
-      same_cursor = refl;
-      same_floor = refl;
-      same_pulled = refl;
-      above_floor = omega arith;
-      on_token = some;
-      seen = omega arith;
-      in_window = omega arith;
-      nothing_yet = λ e. omega arith;
-      room = λ e. absurd (false≢true e);
-      sees = λ e. absurd (false≢true e);
-      at_rest = λ e. refl;
-      token_before = λ l. absurd (omega arith);
-    }
 
 -- no mark is out, or one is
 abbrev pub Frees : Bool → List ℤ → Type 0
@@ -53,7 +29,7 @@ frees how (suc out) = subst (λ b. Frees b (numbers how (suc out))) (sym (ne_eqb
 abbrev pub rested : Unbuffered → Status → ℕ → Unbuffered
 rested u t i = record { feed = u.feed; status = t; capacity = u.capacity; cursor = i; floor = resting (sliding u.capacity) t.marks i u.floor; pulled = u.pulled }
 
-module _ (u : Unbuffered) (v : View) (coming : List Token) (text : Token → List ℕ) (cursor : ℕ) (before : Token) (status : Status) (t : Together u v coming text cursor before status) where
+module _ {u : Unbuffered} {v : View} {coming : List Token} {text : Token → List ℕ} {cursor : ℕ} {before : Option Token} {status : Status} (t : Together u v coming text cursor before status) where
   same_reach : window.reach v ≡ reach u
   same_reach = (λ i. t.same_floor i + t.same_capacity i)
 
@@ -124,12 +100,12 @@ module _ (u : Unbuffered) (v : View) (coming : List Token) (text : Token → Lis
     start_at : (without v at).start ≡ at
     start_at = start_without u.feed.list v coming t.holds at (omega (arith, t.same_floor)) (omega (arith, t.same_pulled))
 
-    nearest : 0 < at → or_else (token_of v (at - 1)) before ≡ token_at u (at - 1)
+    nearest : 0 < at → option_or (token_of v (at - 1)) before ≡ Some (token_at u (at - 1))
     nearest some = ⊎_elim
-        (λ l. ap (λ o. or_else o before) (token_shown (at - 1) (omega arith) (omega arith)))
+        (λ l. ap (λ o. option_or o before) (token_shown (at - 1) (omega arith) (omega arith)))
         (λ l.
         let floor : u.floor ≡ at = omega arith in
-        ap (λ o. or_else o before) (token_below v (at - 1) (omega (arith, t.same_floor))) ∙ t.token_before (omega arith) ∙ ap (λ n. token_at u (n - 1)) floor)
+        ap (λ o. option_or o before) (token_below v (at - 1) (omega (arith, t.same_floor))) ∙ t.token_before (omega arith) ∙ ap (λ n. Some (token_at u (n - 1))) floor)
         (cases_lt u.floor at)
 
     pub together_rests : (b : Bool) → Frees b is.marks → (st : Status) → st ≡ is → Together (rested u is at) (settled_view b v at) coming text at (settled_before b v at before) st
@@ -154,7 +130,7 @@ module _ (u : Unbuffered) (v : View) (coming : List Token) (text : Token → Lis
               room = λ o. t.room (sym same_open ∙ o);
               sees = λ o. let m = t.room (sym same_open ∙ o) in omega (arith, floor);
               at_rest = λ _. floor;
-              token_before = λ some. nearest (omega (arith, floor)) ∙ ap (λ n. token_at u (n - 1)) (sym floor);
+              token_before = λ some. nearest (omega (arith, floor)) ∙ ap (λ n. Some (token_at u (n - 1))) (sym floor);
             }
         go false (m ∷ ms) some f =
             let floor : (rested u is at).floor ≡ u.floor = ap (λ ms. resting (sliding u.capacity) ms at u.floor) some in
@@ -174,7 +150,7 @@ module _ (u : Unbuffered) (v : View) (coming : List Token) (text : Token → Lis
               room = λ o. t.room (sym same_open ∙ o);
               sees = λ o. let n = near (sym same_open ∙ o) in omega (arith, floor);
               at_rest = λ none. let z : ◌≡◌ {A = ℕ} 0 1 = cc in absurd (omega arith);
-              token_before = λ l. t.token_before (omega (arith, floor)) ∙ ap (λ n. token_at u (n - 1)) (sym floor);
+              token_before = λ l. t.token_before (omega (arith, floor)) ∙ ap (λ n. Some (token_at u (n - 1))) (sym floor);
             }
         go true (m ∷ ms) some f = absurd f
         go false [] none f = absurd f

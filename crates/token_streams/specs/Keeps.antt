@@ -1,5 +1,5 @@
 -- The symbols of a token stream keep to the rules of a stream of symbols. Assumes nothing.
-use Rattle.std.specs.Prelude.{◌≡◌, ℕ, suc, ◌+◌, ◌<◌, true, not, List, [], ◌∷◌, map, length, get_or, drop, ℤ, pos, negsuc, slice_index_or, refl}
+use Rattle.std.specs.Prelude.{◌≡◌, ℕ, suc, ◌+◌, ◌<◌, true, not, List, [], ◌∷◌, map, length, get_or, drop, ℤ, pos, negsuc, slice_index_or, Option, refl}
 use Rattle.std.proofs.Common.{sym, ap, subst, ◌∙◌, add-zero, arith}
 use Rattle.std.proofs.lemmas.List.{length-map, get_or-drop, get_or-map}
 use Rattle.std.proofs.lemmas.Bool.{and_parts, not-true, lt-leb}
@@ -37,8 +37,8 @@ module _ (u : Unbuffered) where
   pub index_at : (i : ℕ) → i < length u.feed.list → (symbol (token_at u i)).index ≡ i
   index_at i h = ap (λ k. (symbol k).index) (get_or_stamps u.feed.list i 0 blank h) ∙ omega arith
 
-pub lawful : (u : Unbuffered) (v : View) (coming : List Token) (text : Token → List ℕ) (cursor : ℕ) (before : Token) (status : Status) → Together u v coming text cursor before status → Lawful (stream_of u)
-lawful u v coming text cursor before status t =
+pub lawful : {u : Unbuffered} {v : View} {coming : List Token} {text : Token → List ℕ} {cursor : ℕ} {before : Option Token} {status : Status} → Together u v coming text cursor before status → Lawful (stream_of u)
+lawful {u = u} t =
     let at : (ahead (stream_of u) 0).index ≡ u.cursor = ap (λ y. y.index) (here u (last_of (map symbol (tokens u))) u.cursor t.on_token) ∙ index_at u u.cursor t.on_token in
     record {
       rising = rising 0 u.feed.list t.holds.ended;

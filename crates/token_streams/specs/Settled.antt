@@ -1,5 +1,6 @@
 -- What a window keeps once the cursor has come to an index. Assumes nothing.
-use Rattle.std.specs.Prelude.{ℕ, ◌-◌, Bool, cond, Some, None, Option}
+use Rattle.std.specs.Prelude.{ℕ, ◌-◌, Bool, cond, Option}
+use Rattle.std.specs.Option.{option_or}
 use Rattle.tokens.specs.declared.token.Token.{Token}
 use Rattle.windows.specs.Windows.{View, token_of, without}
 
@@ -7,10 +8,6 @@ use Rattle.windows.specs.Windows.{View, token_of, without}
 abbrev pub settled_view : Bool → View → ℕ → View
 settled_view free v cursor = cond free (without v cursor) v
 
-abbrev pub or_else : Option Token → Token → Token
-or_else (Some k) other = k
-or_else None other = other
-
 -- and the token just below it, if the window has it
-abbrev pub settled_before : Bool → View → ℕ → Token → Token
-settled_before free v cursor before = cond free (or_else (token_of v (cursor - 1)) before) before
+abbrev pub settled_before : Bool → View → ℕ → Option Token → Option Token
+settled_before free v cursor before = cond free (option_or (token_of v (cursor - 1)) before) before

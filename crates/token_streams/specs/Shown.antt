@@ -1,6 +1,7 @@
 -- Which stream of a source's tokens an unbuffered stream shows. Assumes nothing.
-use Rattle.std.specs.Prelude.{◌≡◌, ℕ, ◌-◌, ◌<◌, ◌≤◌, true, false, List, [], length}
+use Rattle.std.specs.Prelude.{◌≡◌, ℕ, ◌-◌, ◌<◌, ◌≤◌, true, false, List, [], length, Some, Option}
 use Rattle.tokens.specs.declared.token.Token.{Token}
+use Rattle.tokens.specs.declared.token_source.TokenSource.{Ghosts}
 use Rattle.streams.specs.Streams.{Status}
 use Rattle.streams.specs.Marks.{numbers}
 use Rattle.windows.specs.Windows.{View, view, end}
@@ -12,7 +13,7 @@ abbrev pub status_of : {S : Type 0} → UnbufferedTokenStream S → Status
 status_of x = record { opened = x.«open»; marks = numbers x.marks.numbering x.marks.out }
 
 -- the parts of a stream as they hold together
-pub record Together (u : Unbuffered) (v : View) (coming : List Token) (text : Token → List ℕ) (cursor : ℕ) (before : Token) (status : Status) : Type 0 where
+pub record Together (u : Unbuffered) (v : View) (coming : List Token) (text : Token → List ℕ) (cursor : ℕ) (before : Option Token) (status : Status) : Type 0 where
   pub holds : Holds u.feed.list v coming
   pub same_text : text ≡ u.feed.text
   pub same_status : status ≡ u.status
@@ -28,7 +29,15 @@ pub record Together (u : Unbuffered) (v : View) (coming : List Token) (text : To
   pub room : u.status.opened ≡ true → 2 ≤ u.capacity
   pub sees : u.status.opened ≡ true → u.cursor < reach u
   pub at_rest : u.status.marks ≡ [] → u.floor ≡ u.cursor
-  pub token_before : 0 < u.floor → before ≡ token_at u (u.floor - 1)
+  pub token_before : 0 < u.floor → before ≡ Some (token_at u (u.floor - 1))
 
-abbrev pub Shows : {S : Type 0} → (S → List Token) → (S → Token → List ℕ) → UnbufferedTokenStream S → Unbuffered → Type 0
-Shows coming text x u = Together u (view x.buffer.window) (coming x.buffer.source) (text x.buffer.source) x.cursor x.before (status_of x)
+abbrev pub Shows : {S : Type 0} → Ghosts S → UnbufferedTokenStream S → Unbuffered → Type 0
+Shows source x u = Together u (view x.buffer.window) (source.coming x.buffer.source) (source.text x.buffer.source) x.cursor x.before (status_of x)
+
+-- what is true of every stream that is shown: more than one can be, since dropped tokens are forgotten
+abbrev pub IfShown : {S : Type 0} → Ghosts S → UnbufferedTokenStream S → (Unbuffered → Type 0) → Type 0
+IfShown source x says = (u : Unbuffered) → Shows source x u → says u
+
+-- every stream that was shown has become another, which is shown now
+abbrev pub Becomes : {S : Type 0} → Ghosts S → UnbufferedTokenStream S → UnbufferedTokenStream S → (Unbuffered → Unbuffered) → Type 0
+Becomes source x y next = IfShown source x (λ u. Shows source y (next u))

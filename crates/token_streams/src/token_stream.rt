@@ -9,13 +9,14 @@ use windows::buffer::Buffer;
 pub mod calls;
 pub mod symbols;
 
-// The window's first index is the floor. `before` is the token just below it, which a look back by one still shows once
-// the window has dropped it.
+// The window's first index is the floor. `before` is the token just below it, if there is one, which a look back by one
+// still shows once the window has dropped it. The window's capacity is 0 until the stream is open, but a flag says that
+// more plainly.
 #[derive(Drop)]
 pub struct UnbufferedTokenStream<S> {
     buffer: Buffer<S>,
     cursor: usize,
-    before: Token,
+    before: Option<Token>,
     marks: Marks,
     open: bool,
     ghost few: { cursor ≤ 1048576 },

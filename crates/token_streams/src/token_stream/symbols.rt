@@ -24,15 +24,15 @@ impl<S: TokenSource> IntStream for UnbufferedTokenStream<S> {
 
     ghost extent = { λ x. length (view x.buffer.window).tokens };
 
-    ghost shows = { λ x s. SymbolsOf (Shows S.TokenSource.coming S.TokenSource.text x) s };
+    ghost shows = { λ x s. SymbolsOf (Shows S.TokenSource x) s };
 
-    ghost lawful = { λ x s of. keeps (Shows S.TokenSource.coming S.TokenSource.text x) (status_of x) (λ u t. (lawful u _ _ _ _ _ _ t, sym t.same_status)) s of };
+    ghost lawful = { λ x s of. keeps (Shows S.TokenSource x) (status_of x) (λ u t. (lawful t, sym t.same_status)) s of };
 
-    ghost unaltered = { λ x y. Unaltered (Shows S.TokenSource.coming S.TokenSource.text x) (Shows S.TokenSource.coming S.TokenSource.text y) };
+    ghost unaltered = { λ x y. Unaltered (Shows S.TokenSource x) (Shows S.TokenSource y) };
 
-    ghost same = { λ x. unaltered_same (Shows S.TokenSource.coming S.TokenSource.text x) };
+    ghost same = { λ x. unaltered_same (Shows S.TokenSource x) };
 
-    ghost chained = { λ x y z f g. unaltered_chained (Shows S.TokenSource.coming S.TokenSource.text x) (Shows S.TokenSource.coming S.TokenSource.text y) (Shows S.TokenSource.coming S.TokenSource.text z) f g };
+    ghost chained = { λ x y z f g. unaltered_chained (Shows S.TokenSource x) (Shows S.TokenSource y) (Shows S.TokenSource z) f g };
 
     fn la(&mut self, k: i32) -> Result<i32, Refusal> {
         UnbufferedTokenStream::la(self, k)

@@ -1,43 +1,30 @@
-use Rattle.std.proofs.Common.{◌<◌, refl, ap, arith}
+use Rattle.std.proofs.Common.{◌<◌, IfSome, sym, refl, ap, ◌∙◌, subst, arith}
 use Rattle.windows.specs.Windows.{view, end}
 use Rattle.windows.proofs.Ring.{ring_end}
 use Rattle.token_streams.proofs.Together.{frees}
 use Rattle.token_streams.proofs.Steps.{together_as, consume_finds_full, consume_finds_eof, consume_finds_next}
 use Rattle.token_streams.proofs.token_stream.UnbufferedTokenStream.consume.Goals as goal
 
-pub returns-in_default : goal.returns-in_default
-returns-in_default g c =
+pub returns-in_err-at-clause-after : goal.returns-in_err-at-clause-after
+returns-in_err-at-clause-after g c = λ u s.
     let see = c.see.ensures in
-    record {
-      value = λ u s. (consume_finds_full u _ _ _ _ _ _ s c.if-not-self.false _ _ _ see.start see.capacity see.after see.texts see.pulled c.in_default.ensures.value).0;
-      after = λ u s. (consume_finds_full u _ _ _ _ _ _ s c.if-not-self.false _ _ _ see.start see.capacity see.after see.texts see.pulled c.in_default.ensures.value).1;
-      status = refl;
-    }
+    consume_finds_full s c.in_ok-opened.ensures.open _ _ _ see.start see.capacity see.after see.texts see.pulled (λ list holds. sym c.in_err-at.ensures.ok_part ∙ see.value list holds)
 
-pub returns-then-at-self : goal.returns-then-at-self
-returns-then-at-self g c =
+pub returns-then-at-self-clause-after : goal.returns-then-at-self-clause-after
+returns-then-at-self-clause-after g c = λ u s.
     let see = c.see.ensures in
-    record {
-      value = λ u s. (consume_finds_eof u _ _ _ _ _ _ s c.if-not-self.false _ _ _ see.start see.capacity see.after see.texts see.pulled c.in-Some.at c.in-Some.ensures.value c.if-at-self.true).0;
-      after = λ u s. (consume_finds_eof u _ _ _ _ _ _ s c.if-not-self.false _ _ _ see.start see.capacity see.after see.texts see.pulled c.in-Some.at c.in-Some.ensures.value c.if-at-self.true).1;
-      status = refl;
-    }
+    consume_finds_eof s c.in_ok-opened.ensures.open _ _ _ see.start see.capacity see.after see.texts see.pulled c.in_ok-at.at (λ list holds. sym c.in_ok-at.ensures.ok_part ∙ see.value list holds) c.if-at-self.true
 
 pub invariant_of-self-2 : goal.invariant_of-self-2
 invariant_of-self-2 g c =
-    let held : c.in-Some.at < end (view c.see.new.self.window) = c.in-Some.ensures.held in
     let window = c.see.new.self.window in
+    let held : c.in_ok-at.at < end (view window) = subst (λ o. IfSome o (λ i. i < end (view window))) c.in_ok-at.ensures.ok_part c.see.ensures.held in
     record { few = omega (arith, held, ring_end window.places window.start window.end window.ordered, window.few); falling = c.args.self.now.falling; unmarked = c.args.self.now.unmarked }
 
-pub returns : goal.returns
-returns g c =
+pub returns-clause-after : goal.returns-clause-after
+returns-clause-after g c = λ u s.
     let see = c.see.ensures in
     let settled = c.settle.ensures in
     let self = c.args.self.now in
-    record {
-      value = λ u s. (consume_finds_next u _ _ _ _ _ _ s c.if-not-self.false _ _ _ see.start see.capacity see.after see.texts see.pulled c.in-Some.at c.in-Some.ensures.value c.if-at-self.false _ (frees self.marks.numbering self.marks.out)).0;
-      after = λ u s.
-          together_as refl settled.window (ap g.S.TokenSource.coming settled.source) (ap g.S.TokenSource.text settled.source) settled.cursor settled.before settled.status
-          (consume_finds_next u _ _ _ _ _ _ s c.if-not-self.false _ _ _ see.start see.capacity see.after see.texts see.pulled c.in-Some.at c.in-Some.ensures.value c.if-at-self.false _ (frees self.marks.numbering self.marks.out)).1;
-      status = settled.status;
-    }
+    together_as refl settled.window (ap g.S.TokenSource.coming settled.source) (ap g.S.TokenSource.text settled.source) settled.cursor settled.before settled.status
+    (consume_finds_next s c.in_ok-opened.ensures.open _ _ _ see.start see.capacity see.after see.texts see.pulled c.in_ok-at.at (λ list holds. sym c.in_ok-at.ensures.ok_part ∙ see.value list holds) c.if-at-self.false _ (frees self.marks.numbering self.marks.out))

@@ -7,5 +7,5 @@ use Rattle.token_streams.proofs.token_stream.UnbufferedTokenStream.get.Goals as 
 
 pub returns : goal.returns
 returns g c = record {
-  value = λ u s. c.get.ensures.value ∙ get_found u _ _ _ _ _ _ s (is_open u _ _ _ _ _ _ s c.if-not-self.false) _ ∙ ap (get u) (to_z-of_z w32 c.args.index c.ranges.index);
+  value = λ u s. c.get.ensures.value ∙ get_found s (is_open s c.in_ok-opened.ensures.open) _ ∙ ap (get u) (to_z-of_z w32 c.args.index c.ranges.index);
 }

@@ -10,6 +10,6 @@ returns g c =
     let start = to_z-of_z w32 c.args.start c.ranges.start in
     let stop = to_z-of_z w32 c.args.stop c.ranges.stop in
     record {
-      value = λ u s. c.text.ensures.value ∙ text_found u _ _ _ _ _ _ s (is_open u _ _ _ _ _ _ s c.if-not-self.false) (to_z w32 (of_z w32 c.args.start)) (to_z w32 (of_z w32 c.args.stop)) c.args.out.now ∙ (λ i. text u (start i) (stop i) c.args.out.now);
-      after = λ u s. c.text.ensures.after ∙ text_left_found u _ _ _ _ _ _ s (is_open u _ _ _ _ _ _ s c.if-not-self.false) (to_z w32 (of_z w32 c.args.start)) (to_z w32 (of_z w32 c.args.stop)) c.args.out.now ∙ (λ i. text_left u (start i) (stop i) c.args.out.now);
+      value = λ u s. c.text.ensures.value ∙ text_found s (is_open s c.in_ok-opened.ensures.open) (to_z w32 (of_z w32 c.args.start)) (to_z w32 (of_z w32 c.args.stop)) c.args.out.now ∙ (λ i. text u (start i) (stop i) c.args.out.now);
+      after = λ u s. c.text.ensures.after ∙ text_left_found s (is_open s c.in_ok-opened.ensures.open) (to_z w32 (of_z w32 c.args.start)) (to_z w32 (of_z w32 c.args.stop)) c.args.out.now ∙ (λ i. text_left u (start i) (stop i) c.args.out.now);
     }

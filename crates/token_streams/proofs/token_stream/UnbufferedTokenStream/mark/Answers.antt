@@ -14,14 +14,14 @@ returns g c =
     let made = c.mark.ensures in
     let number = next_number self.marks.numbering self.marks.out self.falling in
     let ms = numbers self.marks.numbering self.marks.out in
-    let kept = made.after ∙ ap (after_marking ms) number ∙ marks_as_marking t c.if-not-self.false _ in
+    let kept = made.after ∙ ap (after_marking ms) number ∙ marks_as_marking t c.in_ok-opened.ensures.open _ in
     let status = ap (λ ms. record { opened = self.open; marks = ms }) kept in
     record {
-      value = made.value ∙ ap (marking ms) number ∙ when_opened t _ c.if-not-self.false;
+      value = made.value ∙ ap (marking ms) number ∙ when_opened t _ c.in_ok-opened.ensures.open;
       after = λ u s.
-          let o = is_open u _ _ _ _ _ _ s c.if-not-self.false in
+          let o = is_open s c.in_ok-opened.ensures.open in
           let n = negsuc (length ms) in
-          together_marked u _ _ _ _ _ _ s (marks_after_mark u.status n) _ (λ none. marking_keeps u.status.marks n (marks_as_marking u.status o n ∙ none))
+          together_marked s (marks_after_mark u.status n) _ (λ none. marking_keeps u.status.marks n (marks_as_marking u.status o n ∙ none))
           (status ∙ ap (λ t. status_with t (marks_after_mark t n)) s.same_status);
       status = status;
     }

@@ -2,10 +2,9 @@ use Rattle.std.proofs.Common.{◌≡◌, ◌-◌, ◌≤◌, length, pos, ap, �
 use Rattle.std.proofs.lemmas.Int.{ints}
 use Rattle.refusals.specs.Answers.{gives}
 use Rattle.windows.specs.Windows.{view}
+use Rattle.windows.proofs.Ring.{ring_end}
 use Rattle.token_streams.specs.Shown.{status_of}
 use Rattle.token_streams.proofs.Answered.{when_opened}
-use Rattle.token_streams.proofs.Steps.{is_open}
-use Rattle.windows.proofs.Ring.{ring_end}
 use Rattle.token_streams.proofs.token_stream.UnbufferedTokenStream.size.Goals as goal
 
 pub overflow_cast-result : goal.overflow_cast-result
@@ -14,17 +13,11 @@ overflow_cast-result g c =
     let few : c.end.result - c.start.result ≤ 1048576 = omega (arith, c.end.ensures.value, ring_end window.places window.start window.end window.ordered, window.few) in
     search rules
 
-pub returns : goal.returns
-returns g c =
+pub returns-clause-held : goal.returns-clause-held
+returns-clause-held g c =
     let self = c.args.self.now in
     let window = self.buffer.window in
     let last = ring_end window.places window.start window.end window.ordered in
     let few : c.end.result - c.start.result ≤ 1048576 = omega (arith, c.end.ensures.value, last, window.few) in
     let count : to_z w32 (c.end.result - c.start.result) ≡ pos (length (view window).tokens) = omega (arith, ints, c.end.ensures.value, c.start.ensures.value) in
-    record {
-      value = λ u s.
-          let o = is_open u _ _ _ _ _ _ s c.if-not-self.false in
-          let held : length (view window).tokens ≡ u.pulled - u.floor = omega (arith, s.same_pulled, s.same_floor) in
-          ap gives count ∙ ap (λ n. gives (pos n)) held ∙ when_opened u.status (gives (pos (u.pulled - u.floor))) o;
-      held = ap gives count ∙ when_opened (status_of self) (gives (pos (length (view window).tokens))) c.if-not-self.false;
-    }
+    ap gives count ∙ when_opened (status_of self) (gives (pos (length (view window).tokens))) c.in_ok-opened.ensures.open

@@ -1,26 +1,19 @@
-use Rattle.std.proofs.Common.{refl, ap, ◌∙◌}
+use Rattle.std.proofs.Common.{ap, ◌∙◌}
 use Rattle.streams.specs.Streams.{with_marks}
 use Rattle.streams.specs.Calls.{marks_after_release}
 use Rattle.token_streams.specs.Calls.{after_release}
 use Rattle.token_streams.proofs.Symbols.{marks_same}
 use Rattle.token_streams.proofs.token_stream.symbols.UnbufferedTokenStreamIntStream.release.Goals as goal
 
-pub returns : goal.returns
-returns g c =
+pub returns-clause-after : goal.returns-clause-after
+returns-clause-after g c = λ s of.
     let found = c.release.ensures in
     let n = c.args.mark.number in
+    let u = of.stream in
     record {
-      value = found.value;
-      back = found.back;
-      after = λ s of.
-          let u = of.stream in
-          record {
-            stream = after_release u n;
-            is_shown = found.after u of.is_shown;
-            symbols =
-                ap (with_marks s) (ap (λ t. t.marks) found.status ∙ ap (λ t. marks_after_release t n) of.is_shown.same_status)
-                ∙ ap (λ s. with_marks s (marks_after_release u.status n)) of.symbols ∙ marks_same u of.is_shown.holds.ended of.is_shown.on_token (marks_after_release u.status n);
-          };
-      status = found.status;
-      unaltered = λ u s. record { stream = after_release u n; is_shown = found.after u s; same_feed = refl };
+      stream = after_release u n;
+      is_shown = found.after u of.is_shown;
+      symbols =
+          ap (with_marks s) (ap (λ t. t.marks) found.status ∙ ap (λ t. marks_after_release t n) of.is_shown.same_status)
+          ∙ ap (λ s. with_marks s (marks_after_release u.status n)) of.symbols ∙ marks_same u of.is_shown.holds.ended of.is_shown.on_token (marks_after_release u.status n);
     }
