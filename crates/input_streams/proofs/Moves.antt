@@ -1,8 +1,9 @@
 -- What each call answers and leaves, by the position that is shown. Assumes nothing.
-use Rattle.std.proofs.Common.{◌≡◌, ℕ, zero, suc, ◌+◌, ◌-◌, ◌≤◌, true, false, List, [], reverse, length, ℤ, pos, negsuc, nat_abs, Some, None, sym, refl, ap, ◌∙◌, arith}
-use lib.Signed.{lt_z}
+use Rattle.std.proofs.Common.{◌≡◌, ℕ, suc, ◌+◌, ◌-◌, ◌≤◌, List, [], reverse, length, ℤ, pos, negsuc, nat_abs, ◌<ℤ◌, Some, None, Less, Greater, int_cmp, sym, refl, ap, ◌∙◌, arith}
 use Rattle.std.specs.List.{slice_get}
-use Rattle.std.proofs.lemmas.Bool.{le-ltb, ltb-true, true≢false}
+use Rattle.std.proofs.lemmas.Cmp.{int_ranked}
+use Rattle.std.proofs.lemmas.Int.{ints}
+use Rattle.std.proofs.lemmas.Bool.{le-ltb}
 use Rattle.refusals.specs.Answers.{gives, refuses, unless, if_given}
 use Rattle.characters.specs.Text.{Text, Lawful, start_from, item_at, on, back}
 use Rattle.characters.proofs.Starts.{start_from_start, start_from_within}
@@ -14,19 +15,20 @@ use Rattle.input_streams.proofs.Around.{place_and_rest, from_cursor, to_cursor, 
 use Rattle.input_streams.proofs.Looks.{number_on, number_back, index_here}
 
 -- a number that a caller passed counts symbols ahead, or behind
-pub counts_ahead : (k : ℤ) → lt_z k (pos 0) ≡ false → (k ≡ pos 0 → ⊥) → k ≡ pos (suc (nat_abs k - 1))
-counts_ahead (pos zero) h some = absurd (some refl)
-counts_ahead (pos (suc n)) h some = let same : n ≡ suc n - 1 = omega arith in ap (λ m. pos (suc m)) same
-counts_ahead (negsuc n) h some = absurd (true≢false h)
+pub counts_ahead : (k : ℤ) → Greater ≡ int_cmp k (pos 0) → k ≡ pos (suc (nat_abs k - 1))
+counts_ahead k h = let above : pos 0 <ℤ k = int_ranked k (pos 0) Greater h in omega (arith, ints)
 
-pub counts_behind : (k : ℤ) → lt_z k (pos 0) ≡ true → (n : ℕ) × (k ≡ negsuc n) × (nat_abs k ≡ suc n)
-counts_behind (pos n) h = absurd (omega (arith, ltb-true n 0 h))
+pub counts_behind : (k : ℤ) → Less ≡ int_cmp k (pos 0) → (n : ℕ) × (k ≡ negsuc n) × (nat_abs k ≡ suc n)
+counts_behind (pos n) h = let below : pos n <ℤ pos 0 = int_ranked (pos n) (pos 0) Less h in absurd (omega (arith, ints))
 counts_behind (negsuc n) h = (n, refl, refl)
 
 module _ (t : Text) (ok : Lawful t) where
   -- every start fits
   pub start_small : (i n : ℕ) → i ≡ start_from t n → i ≤ 65536
   start_small i n e = omega (arith, start_from_within t ok n, ok.few)
+
+  pub start_is : (i n : ℕ) → i ≡ start_from t n → start_from t i ≡ i
+  start_is i n e = ap (start_from t) e ∙ start_from_start t ok n ∙ sym e
 
   -- the first symbol
   place_first : place (symbols t) (start_from t 0) ≡ 0
@@ -35,7 +37,7 @@ module _ (t : Text) (ok : Lawful t) where
   pub shows_first : (i : ℕ) (marks : List ℤ) → i ≡ start_from t 0 → marks ≡ [] → Shows t i marks (characters t [] 0)
   shows_first i marks at none = record {
     stream = (λ j. characters t (sym none j) (sym (ap (place (symbols t)) at ∙ place_first) j));
-    start = ap (start_from t) at ∙ start_from_start t ok 0 ∙ sym at;
+    start = start_is i 0 at;
   }
 
   -- the next symbol
@@ -87,7 +89,7 @@ module _ (t : Text) (ok : Lawful t) (i : ℕ) (marks : List ℤ) (s : Stream) (s
         sym granted ∙ ap consume (sym shown.stream),
         record {
           stream = ap consumed shown.stream ∙ ap (λ a. if_given a (moved now (now.cursor + 1)) now) granted ∙ ap (characters t marks) (place_next t ok i c e ∙ ap (place (symbols t)) (sym at));
-          start = ap (start_from t) at ∙ start_from_start t ok (suc i) ∙ sym at;
+          start = start_is t ok next (suc i) at;
         },
       )
 
@@ -96,12 +98,12 @@ module _ (t : Text) (ok : Lawful t) (i : ℕ) (marks : List ℤ) (s : Stream) (s
     sym (arrives_at t ok marks (place (symbols t) i) n) ∙ (λ j. seek (sym shown.stream j) (sym e j)),
     record {
       stream = (λ j. sought_out (shown.stream j) (e j)) ∙ goes_to t ok marks (place (symbols t) i) n ∙ ap (characters t marks) (sym (ap (place (symbols t)) at ∙ place_start t ok n));
-      start = ap (start_from t) at ∙ start_from_start t ok n ∙ sym at;
+      start = start_is t ok next n at;
     },
   )
 
   pub is_reset : (next : ℕ) → next ≡ start_from t 0 → Shows t next marks (moved s 0)
   is_reset next at = record {
     stream = ap (λ s. moved s 0) shown.stream ∙ ap (characters t marks) (sym (ap (place (symbols t)) at ∙ place_first t ok));
-    start = ap (start_from t) at ∙ start_from_start t ok 0 ∙ sym at;
+    start = start_is t ok next 0 at;
   }

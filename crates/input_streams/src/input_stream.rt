@@ -2,15 +2,16 @@
 ghost use Rattle.std.specs.Prelude.{◌≡◌, ℕ, ◌≤◌, [], negsuc, refl};
 ghost use Rattle.std.proofs.Common.{◌∙◌};
 ghost use Rattle.refusals.specs.Answers.{answer};
-ghost use Rattle.characters.specs.Text.{on, back};
+ghost use Rattle.characters.specs.Text.{on, back, start_from};
 ghost use Rattle.characters.specs.Signed.{interval_check, interval};
 ghost use Rattle.streams.specs.Streams.{Stream, moved};
-ghost use Rattle.streams.specs.Marks.{numbered, numbers};
-ghost use Rattle.input_streams.specs.Symbols.{open_with, characters, Shows, number_at, reached};
+ghost use Rattle.streams.specs.Marks.{numbered};
+ghost use Rattle.input_streams.specs.Symbols.{open_with, characters, number_at, reached};
 ghost use Rattle.input_streams.specs.Keeps.{shown_lawful};
 
 use characters::char_stream::InputData;
 use refusals::Refusal;
+use std::cmp::Ordering;
 use streams::int_stream::{EOF, IntStream};
 use streams::mark::{Kept, Mark, Marks, Numbering};
 use texts::units::{CodePoints8, CodePoints16, CodePoints32};
@@ -23,13 +24,13 @@ const NOTHING_BEFORE: i32 = -1;
 // The number of every mark.
 const MARK_NUMBER: i32 = -1;
 
-// The cursor is on the symbol at `index`, which is a start of the text: a bound's meaning cannot stand in an invariant, so
-// that `Shows` says this.
+// The cursor is on the symbol at `index`, which is a start of the text.
 #[derive(Drop)]
-pub struct InputStream<D> {
+pub struct InputStream<D: InputData> {
     text: D,
     index: usize,
     marks: Marks,
+    ghost start: { start_from (D.InputData.meaning text) index ≡ index },
     ghost inside: { index ≤ 65536 },
     ghost alike: { (n : ℕ) → numbered marks.numbering n ≡ negsuc 0 },
 }
@@ -48,9 +49,11 @@ pub type CodePoint32BitCharStream<'a> = InputStream<CodePoints32<'a>>;
 pub type Utf8CharStream<'a> = InputStream<Utf8Text<'a>>;
 
 impl<D: InputData> InputStream<D> {
+    ghost use Rattle.input_streams.specs.Shown.{Shown};
+
     // A stream at the front of a text.
     pub fn new(text: D) -> Self
-        ensures shows { Shows (D.InputData.meaning result.text) result.index (numbers result.marks.numbering result.marks.out) (characters (D.InputData.meaning text) [] 0) }
+        ensures shows { Shown result (characters (D.InputData.meaning text) [] 0) }
         ensures text { result.text ≡ text }
     {
         let index = text.start_from(0);
@@ -63,7 +66,7 @@ impl<D: InputData> InputStream<D> {
 
     // Back to the first symbol.
     pub fn reset(&mut self)
-        ensures after { (s : Stream) → Shows (D.InputData.meaning self.old.text) self.old.index (numbers self.old.marks.numbering self.old.marks.out) s → Shows (D.InputData.meaning self.new.text) self.new.index (numbers self.new.marks.numbering self.new.marks.out) (moved s 0) }
+        ensures after { (s : Stream) → Shown self.old s → Shown self.new (moved s 0) }
         ensures marks { self.new.marks ≡ self.old.marks }
         ensures unaltered { self.old.text ≡ self.new.text }
     {
@@ -88,10 +91,16 @@ impl<D: InputData> InputStream<D> {
     fn number_at(&self, at: usize) -> i32
         ensures value { result ≡ number_at (D.InputData.meaning self.now.text) at }
     {
-        match self.text.code_point(at) {
-            Some(point) => point.code as i32,
-            None => EOF,
-        }
+        self.text
+            .code_point(at)
+            .map_or(EOF, |point| point.code as i32)
+    }
+
+    // The number of the symbol at a start that a walk led to, and another number where it led nowhere.
+    fn reached(&self, walk: Option<usize>, nowhere: i32) -> i32
+        ensures value { result ≡ reached (D.InputData.meaning self.now.text) nowhere walk }
+    {
+        walk.map_or(nowhere, |at| self.number_at(at))
     }
 
     // The number of the symbol so many after the one under the cursor.
@@ -102,37 +111,33 @@ impl<D: InputData> InputStream<D> {
         if steps == 0 {
             return self.number_at(self.index);
         }
-        match self.text.on(self.index, steps) {
-            Some(at) => self.number_at(at),
-            None => EOF,
-        }
+        self.reached(self.text.on(self.index, steps), EOF)
     }
 
     // The number of the symbol so many before the one under the cursor.
     fn number_behind(&self, steps: usize) -> i32
         ensures value { result ≡ reached (D.InputData.meaning self.now.text) (negsuc 0) (back (D.InputData.meaning self.now.text) self.now.index steps) }
     {
-        match self.text.back(self.index, steps) {
-            Some(at) => self.number_at(at),
-            None => NOTHING_BEFORE,
-        }
+        self.reached(self.text.back(self.index, steps), NOTHING_BEFORE)
     }
 }
 
 impl<D: InputData> IntStream for InputStream<D> {
+    ghost use Rattle.input_streams.specs.Shown.{marks_of, Shown};
+
     const NOTHING_BEFORE: i32 = NOTHING_BEFORE;
 
     ghost nothing = { negsuc 0 };
 
-    ghost status = { λ x. open_with (numbers x.marks.numbering x.marks.out) };
+    ghost status = { λ x. open_with (marks_of x) };
 
     ghost numbered = { λ _. negsuc 0 };
 
     ghost extent = { λ x. (D.InputData.meaning x.text).size };
 
-    ghost shows = { λ x. Shows (D.InputData.meaning x.text) x.index (numbers x.marks.numbering x.marks.out) };
+    ghost shows = { λ x. Shown x };
 
-    ghost lawful = { λ x. shown_lawful (D.InputData.meaning x.text) (D.InputData.lawful x.text) x.index (numbers x.marks.numbering x.marks.out) };
+    ghost lawful = { λ x. shown_lawful (D.InputData.meaning x.text) (D.InputData.lawful x.text) x.index (marks_of x) };
 
     ghost unaltered = { λ x y. x.text ≡ y.text };
 
@@ -141,28 +146,25 @@ impl<D: InputData> IntStream for InputStream<D> {
     ghost chained = { λ _ _ _ p q. p ∙ q };
 
     fn la(&mut self, k: i32) -> Result<i32, Refusal> {
-        if k == 0 {
-            return Err(Refusal::ZeroOffset);
+        match k.cmp(&0) {
+            Ordering::Less => Ok(self.number_behind(k.unsigned_abs() as usize)),
+            Ordering::Equal => Err(Refusal::ZeroOffset),
+            Ordering::Greater => Ok(self.number_ahead(k as usize - 1)),
         }
-        if k < 0 {
-            return Ok(self.number_behind(k.unsigned_abs() as usize));
-        }
-        Ok(self.number_ahead(k as usize - 1))
     }
 
     fn consume(&mut self) -> Result<(), Refusal> {
-        let Some(point) = self.text.code_point(self.index) else {
-            return Err(Refusal::EndOfStream);
-        };
+        let point = self
+            .text
+            .code_point(self.index)
+            .ok_or(Refusal::EndOfStream)?;
         self.index = point.next;
         Ok(())
     }
 
     fn seek(&mut self, index: i32) -> Result<(), Refusal> {
-        if index < 0 {
-            return Err(Refusal::Negative);
-        }
-        self.index = self.text.start_from(index as usize);
+        let index = usize::try_from(index).map_err(|_| Refusal::Negative)?;
+        self.index = self.text.start_from(index);
         Ok(())
     }
 

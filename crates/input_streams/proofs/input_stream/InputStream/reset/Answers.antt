@@ -1,19 +1,15 @@
-use Rattle.std.proofs.Common.{refl}
-use Rattle.input_streams.proofs.Moves.{start_small, is_reset}
+use Rattle.input_streams.proofs.Moves.{start_is, start_small, is_reset}
 use Rattle.input_streams.proofs.input_stream.InputStream.reset.Goals as goal
 
 pub invariant_of-self : goal.invariant_of-self
 invariant_of-self g c =
     let input = g.D.InputData in
     let self = c.args.self.now in
-    record { inside = start_small (input.meaning self.text) (input.lawful self.text) _ 0 c.start_from-self.ensures.value; alike = self.alike }
+    let at = c.start_from-self.ensures.value in
+    record { start = start_is (input.meaning self.text) (input.lawful self.text) _ 0 at; inside = start_small (input.meaning self.text) (input.lawful self.text) _ 0 at; alike = self.alike }
 
-pub returns : goal.returns
-returns g c =
+pub returns-clause-after : goal.returns-clause-after
+returns-clause-after g c = λ s shown.
     let input = g.D.InputData in
     let self = c.args.self.now in
-    record {
-      after = λ s shown. is_reset (input.meaning self.text) (input.lawful self.text) _ _ s shown _ c.start_from-self.ensures.value;
-      marks = refl;
-      unaltered = refl;
-    }
+    is_reset (input.meaning self.text) (input.lawful self.text) _ _ s shown _ c.start_from-self.ensures.value

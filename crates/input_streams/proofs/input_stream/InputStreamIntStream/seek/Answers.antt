@@ -1,24 +1,17 @@
-use Rattle.std.proofs.Common.{sym, refl, ◌∙◌, w32}
-use Rattle.std.proofs.lemmas.Int.{to_z-of_z}
-use Rattle.characters.proofs.Asked.{natural}
-use Rattle.input_streams.proofs.Moves.{start_small, is_sought}
+use Rattle.std.proofs.Common.{◌≡◌, pos, rules}
+use Rattle.input_streams.proofs.Moves.{start_is, start_small, is_sought}
 use Rattle.input_streams.proofs.input_stream.InputStreamIntStream.seek.Goals as goal
 
 pub invariant_of-self : goal.invariant_of-self
 invariant_of-self g c =
     let input = g.D.InputData in
     let self = c.args.self.now in
-    record { inside = start_small (input.meaning self.text) (input.lawful self.text) _ _ c.start_from-self.ensures.value; alike = self.alike }
+    let at = c.start_from-self.ensures.value in
+    record { start = start_is (input.meaning self.text) (input.lawful self.text) _ _ at; inside = start_small (input.meaning self.text) (input.lawful self.text) _ _ at; alike = self.alike }
 
-pub returns : goal.returns
-returns g c =
+pub returns-clause-after : goal.returns-clause-after
+returns-clause-after g c = λ s shown.
     let input = g.D.InputData in
     let text = c.args.self.now.text in
-    let to = sym (to_z-of_z w32 c.args.index c.ranges.index) ∙ natural _ c.if-index-lt0.false in
-    let at = c.start_from-self.ensures.value in
-    record {
-      value = λ s shown. (is_sought (input.meaning text) (input.lawful text) _ _ s shown _ _ _ to at).0;
-      after = λ s shown. (is_sought (input.meaning text) (input.lawful text) _ _ s shown _ _ _ to at).1;
-      status = refl;
-      unaltered = refl;
-    }
+    let to : c.args.index ≡ pos c.in_ok-index.index = search rules in
+    (is_sought (input.meaning text) (input.lawful text) _ _ s shown _ _ _ to c.start_from-self.ensures.value).1
