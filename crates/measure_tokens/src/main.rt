@@ -8,6 +8,7 @@ use refusals::Refusal;
 use std::env;
 use std::io::Read;
 use std::time::Instant;
+use streams::int_stream::EOF;
 use texts::utf8_text::Utf8Text;
 use token_streams::token_stream::{UnbufferedTokenStream, calls};
 
@@ -25,13 +26,11 @@ fn read(text: Utf8Text, met: &mut Met) -> Result<(), Refusal> {
     // A text has no more tokens than bytes, and the EOF.
     for _ in 0..65_537 {
         let under = stream.la(1)?;
-        if under == -1 {
+        if under == EOF {
             break;
         }
-        if let Some(next) = stream.lt(2)? {
-            if next.token_type == under {
-                met.pairs = met.pairs.wrapping_add(1);
-            }
+        if stream.lt(2)?.is_some_and(|next| next.token_type == under) {
+            met.pairs = met.pairs.wrapping_add(1);
         }
         stream.consume()?;
         met.tokens = met.tokens.wrapping_add(1);
@@ -40,10 +39,10 @@ fn read(text: Utf8Text, met: &mut Met) -> Result<(), Refusal> {
 }
 
 fn run(rt: &HostRuntime) -> anyhow::Result<()> {
-    let mut rounds = 1u32;
-    for word in env::args(rt)?.skip(1) {
-        rounds = word.as_str().parse::<u32>()?;
-    }
+    let rounds = match env::args(rt)?.nth(1) {
+        Some(word) => word.as_str().parse::<u32>()?,
+        None => 1,
+    };
     let mut sheet = Vec::new(rt.alloc());
     rt.stdin().take(65_537).read_to_end(&mut sheet)?;
     let bytes = sheet.as_slice();
@@ -54,15 +53,13 @@ fn run(rt: &HostRuntime) -> anyhow::Result<()> {
     let start = Instant::now(rt)?;
     for _ in 0..rounds {
         if let Err(refusal) = read(Utf8Text::new(bytes), &mut met) {
-            let number = refusal.number();
-            println!(rt; "REFUSED {number}")?;
+            println!(rt; "REFUSED {}", refusal.number())?;
             return Ok(());
         }
     }
     let spent = start.elapsed(rt)?;
     let size = bytes.len();
-    let tokens = met.tokens;
-    let pairs = met.pairs;
+    let Met { tokens, pairs } = met;
     println!(rt;
         "{size} bytes, {rounds} rounds, {tokens} tokens before the EOF, {pairs} followed by one of their type"
     )?;
