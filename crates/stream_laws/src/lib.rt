@@ -11,8 +11,8 @@ use refusals::Refusal;
 use streams::int_stream::IntStream;
 use streams::mark::Mark;
 
-// What was ahead of a step, the step, and what is behind after it. Each law has a struct of its own for its results, so that
-// its clauses call each of them by what it is.
+// What was ahead of a step, the step, and what is behind after it. Each law has a struct of its own, so that its clauses
+// call each result by what it is.
 #[derive(Drop)]
 pub struct Looks {
     pub ahead: Result<i32, Refusal>,
