@@ -1,5 +1,5 @@
 -- What each call answers of a token comes from the source's list, and no call alters the list. Assumes nothing.
-use Rattle.std.proofs.Common.{◌≡◌, ℕ, zero, suc, ◌+◌, ◌-◌, ◌<◌, Bool, true, false, cond, not, ◌&&◌, ltb, leb, List, length, get_or, ℤ, pos, negsuc, Some, None, sym, refl, ap, ◌∙◌, arith}
+use Rattle.std.proofs.Common.{◌≡◌, ℕ, Option, zero, suc, ◌+◌, ◌-◌, ◌<◌, Bool, true, false, cond, not, ◌&&◌, ltb, leb, List, length, get_or, ℤ, pos, negsuc, Some, None, sym, refl, ap, ◌∙◌, arith}
 use Rattle.std.proofs.lemmas.Bool.{leb-false}
 use Rattle.refusals.specs.Answers.{Answer, gives, refuses, unless, if_given}
 use Rattle.characters.specs.Signed.{upward}
@@ -52,7 +52,7 @@ of_place list i h =
     let at : upward (get_or (stamps 0 list) i blank).index ≡ i = ap (λ k. upward k.index) (get_or_stamps list i 0 blank h) ∙ omega arith in
     (omega (arith, at), ap (λ n. get_or (stamps 0 list) n blank) (sym at))
 
-module _ (u : Unbuffered) (v : View) (coming : List Token) (texts : Token → List ℕ) (cursor : ℕ) (before : Token) (status : Status) (t : Together u v coming texts cursor before status) where
+module _ (u : Unbuffered) (v : View) (coming : List Token) (texts : Token → List ℕ) (cursor : ℕ) (before : Option Token) (status : Status) (t : Together u v coming texts cursor before status) where
   list : List Token
   list = u.feed.list
 

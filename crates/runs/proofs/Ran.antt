@@ -1,5 +1,5 @@
 -- A list of calls, one after the other. Assumes nothing.
-use Rattle.std.proofs.Common.{◌≡◌, ℕ, suc, ◌+◌, ◌<◌, ◌≤◌, ltb, List, [], ◌∷◌, ◌++◌, map, length, get_or, drop, set, sym, refl, ap, ◌∙◌, subst, arith}
+use Rattle.std.proofs.Common.{◌≡◌, ℕ, Option, suc, ◌+◌, ◌<◌, ◌≤◌, ltb, List, [], ◌∷◌, ◌++◌, map, length, get_or, drop, set, sym, refl, ap, ◌∙◌, subst, arith}
 use Rattle.std.specs.List.{AllByRecursion}
 use Rattle.std.proofs.lemmas.List.{append_assoc, append-nil, length_push, length-map, drop_more, drop_all, set_at, map-set}
 use Rattle.std.proofs.ByRecursion.{All-push}
@@ -61,7 +61,7 @@ length_replies u out [] = refl
 length_replies u out (c ∷ cs) = ap suc (length_replies (after u c) (left_by u out c) cs)
 
 -- the law, from the last stream that is shown
-pub the_law : (u : Unbuffered) (out : List ℕ) (cs : List Call) (w : Unbuffered) (v : View) (coming : List Token) (text : Token → List ℕ) (cursor : ℕ) (b : Token) (status : Status) → after_all u cs ≡ w → w.feed ≡ u.feed → AllByRecursion (OfList u.feed.list) (replies u out cs) → Together w v coming text cursor b status → ShowsTheList u out cs
+pub the_law : (u : Unbuffered) (out : List ℕ) (cs : List Call) (w : Unbuffered) (v : View) (coming : List Token) (text : Token → List ℕ) (cursor : ℕ) (b : Option Token) (status : Status) → after_all u cs ≡ w → w.feed ≡ u.feed → AllByRecursion (OfList u.feed.list) (replies u out cs) → Together w v coming text cursor b status → ShowsTheList u out cs
 the_law u out cs w v coming text cursor b status last same tokens t =
     let list : length w.feed.list ≡ length u.feed.list = ap (λ f. length f.list) same in
     record {

@@ -1,5 +1,5 @@
 -- A walk through a window. Assumes nothing.
-use Rattle.std.proofs.Common.{◌≡◌, ℕ, suc, ◌+◌, ◌-◌, ◌<◌, ◌≤◌, min, true, List, [], length, get_or, ℤ, pos, Some, sym, refl, ap, ◌∙◌, ⊎_elim, arith}
+use Rattle.std.proofs.Common.{◌≡◌, ℕ, Option, suc, ◌+◌, ◌-◌, ◌<◌, ◌≤◌, min, true, List, [], length, get_or, ℤ, pos, Some, sym, refl, ap, ◌∙◌, ⊎_elim, arith}
 use Rattle.std.proofs.lemmas.Bool.{cases_eq}
 use Rattle.refusals.specs.Answers.{gives, refuses, if_given}
 use Rattle.tokens.specs.declared.token.Token.{Token}
@@ -22,7 +22,7 @@ pub record Walking (shown : Unbuffered → Type 0) (list : List Token) (steps : 
   pub unmarked : stream.status.marks ≡ []
   pub cursor_is : stream.cursor ≡ min steps (length list - 1)
 
-module _ (u : Unbuffered) (v : View) (coming : List Token) (text : Token → List ℕ) (cursor : ℕ) (before : Token) (status : Status) (t : Together u v coming text cursor before status) (o : u.status.opened ≡ true) (none : u.status.marks ≡ []) where
+module _ (u : Unbuffered) (v : View) (coming : List Token) (text : Token → List ℕ) (cursor : ℕ) (before : Option Token) (status : Status) (t : Together u v coming text cursor before status) (o : u.status.opened ≡ true) (none : u.status.marks ≡ []) where
   -- the next token is always in the window
   near : (i : ℕ) → clamped u (u.cursor + i) ≤ u.cursor + 1 → clamped u (u.cursor + i) < reach u
   near i h = let room = t.room o in let rest = t.at_rest none in omega arith
@@ -43,7 +43,7 @@ module _ (u : Unbuffered) (v : View) (coming : List Token) (text : Token → Lis
       sym (ahead_some u 0 (near 0 (omega arith)) ∙ lt_ahead u o (pos 1) 0 refl) ∙ ap (λ n. gives (Some (token_at u n))) here
 
 -- one step more
-pub walking_on : (shown : Unbuffered → Type 0) (shown' : Unbuffered → Type 0) (list : List Token) (steps : ℕ) → (w : Walking shown list steps) → (v : View) (coming : List Token) (text : Token → List ℕ) (cursor : ℕ) (before : Token) (status : Status) → Together w.stream v coming text cursor before status → shown' (after_consume w.stream) → Walking shown' list (suc steps)
+pub walking_on : (shown : Unbuffered → Type 0) (shown' : Unbuffered → Type 0) (list : List Token) (steps : ℕ) → (w : Walking shown list steps) → (v : View) (coming : List Token) (text : Token → List ℕ) (cursor : ℕ) (before : Option Token) (status : Status) → Together w.stream v coming text cursor before status → shown' (after_consume w.stream) → Walking shown' list (suc steps)
 walking_on shown shown' list steps w v coming text cursor before status t next =
     let u = w.stream in
     let s = step u v coming text cursor before status t w.is_open w.unmarked in
@@ -65,7 +65,7 @@ stays_closed list capacity steps n e = ap (λ a. follow a (gives (Some (get_or (
 pub opens : (f : Feed) (capacity : ℤ) → gives tt ≡ admission capacity → after_open (unopened f) capacity ≡ opened_with (unopened f) capacity
 opens f capacity e = ap (λ a. if_given a (opened_with (unopened f) capacity) (unopened f)) (sym e)
 
-pub comes : (shown : Unbuffered → Type 0) (list : List Token) (capacity : ℤ) (steps : ℕ) → (w : Walking shown list steps) → (v : View) (coming : List Token) (text : Token → List ℕ) (cursor : ℕ) (before : Token) (status : Status) → Together w.stream v coming text cursor before status → gives tt ≡ admission capacity → lt w.stream (pos 1) ≡ come_to list capacity steps
+pub comes : (shown : Unbuffered → Type 0) (list : List Token) (capacity : ℤ) (steps : ℕ) → (w : Walking shown list steps) → (v : View) (coming : List Token) (text : Token → List ℕ) (cursor : ℕ) (before : Option Token) (status : Status) → Together w.stream v coming text cursor before status → gives tt ≡ admission capacity → lt w.stream (pos 1) ≡ come_to list capacity steps
 comes shown list capacity steps w v coming text cursor before status t e =
     look w.stream v coming text cursor before status t w.is_open w.unmarked
     ∙ (λ i. gives (Some (get_or (stamps 0 (w.list_is i)) (w.cursor_is i) blank)))

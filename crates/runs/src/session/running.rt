@@ -43,7 +43,7 @@ fn give_back(marks: &mut Marks, mark: Mark)
 impl<S: TokenSource> Session<S> {
     // A stream over a source, with no call made yet.
     pub fn new(token_source: S) -> Self
-        ensures shows { Shows S.TokenSource.coming S.TokenSource.text result.stream (unopened (record { list = S.TokenSource.coming token_source; text = S.TokenSource.text token_source })) }
+        ensures shows { Shows S.TokenSource result.stream (unopened (record { list = S.TokenSource.coming token_source; text = S.TokenSource.text token_source })) }
     {
         Session {
             stream: UnbufferedTokenStream::new_unbuffered(token_source),
@@ -54,7 +54,7 @@ impl<S: TokenSource> Session<S> {
     // Makes a mark, and keeps it.
     fn mark(&mut self) -> Result<i32, Refusal>
         ensures value { answer result ≡ mark_answer (status_of self.old.stream) (negsuc (length (status_of self.old.stream).marks)) }
-        ensures after { (u : Unbuffered) → Shows S.TokenSource.coming S.TokenSource.text self.old.stream u → Shows S.TokenSource.coming S.TokenSource.text self.new.stream (after_mark u (negsuc (length (status_of self.old.stream).marks))) }
+        ensures after { (u : Unbuffered) → Shows S.TokenSource self.old.stream u → Shows S.TokenSource self.new.stream (after_mark u (negsuc (length (status_of self.old.stream).marks))) }
     {
         match self.stream.mark() {
             Ok(mark) => {
@@ -72,7 +72,7 @@ impl<S: TokenSource> Session<S> {
     // goes to the stranger in its place.
     fn release(&mut self, number: i32) -> Result<(), Refusal>
         ensures value { answer result ≡ release_answer (status_of self.old.stream) number }
-        ensures after { (u : Unbuffered) → Shows S.TokenSource.coming S.TokenSource.text self.old.stream u → Shows S.TokenSource.coming S.TokenSource.text self.new.stream (after_release u number) }
+        ensures after { (u : Unbuffered) → Shows S.TokenSource self.old.stream u → Shows S.TokenSource self.new.stream (after_release u number) }
     {
         let (mut stranger, mark) = stranger(number);
         match self.stream.release(mark) {
@@ -93,9 +93,9 @@ impl<S: TokenSource> Session<S> {
 
     // Makes a call.
     pub fn call(&mut self, call: Call, out: &mut [u8]) -> Reply
-        ensures value { (u : Unbuffered) → Shows S.TokenSource.coming S.TokenSource.text self.old.stream u → reply_of result ≡ replied u out.old call }
-        ensures after { (u : Unbuffered) → Shows S.TokenSource.coming S.TokenSource.text self.old.stream u → Shows S.TokenSource.coming S.TokenSource.text self.new.stream (after u call) }
-        ensures output { (u : Unbuffered) → Shows S.TokenSource.coming S.TokenSource.text self.old.stream u → out.new ≡ left_by u out.old call }
+        ensures value { (u : Unbuffered) → Shows S.TokenSource self.old.stream u → reply_of result ≡ replied u out.old call }
+        ensures after { (u : Unbuffered) → Shows S.TokenSource self.old.stream u → Shows S.TokenSource self.new.stream (after u call) }
+        ensures output { (u : Unbuffered) → Shows S.TokenSource self.old.stream u → out.new ≡ left_by u out.old call }
     {
         match call {
             Call::Open(capacity) => done(self.stream.open(capacity)),
@@ -122,10 +122,10 @@ impl<S: TokenSource> Session<S> {
         answers: &mut [Reply],
     ) -> Result<usize, Refusal>
         ensures value { answer result ≡ run_answer calls.now answers.old }
-        ensures replies { (u : Unbuffered) → Shows S.TokenSource.coming S.TokenSource.text self.old.stream u → map reply_of answers.new ≡ overwritten (replies u out.old calls.now) (map reply_of answers.old) }
-        ensures after { (u : Unbuffered) → Shows S.TokenSource.coming S.TokenSource.text self.old.stream u → Shows S.TokenSource.coming S.TokenSource.text self.new.stream (after_all u (calls_made calls.now answers.old)) }
-        ensures output { (u : Unbuffered) → Shows S.TokenSource.coming S.TokenSource.text self.old.stream u → out.new ≡ left_by_all u out.old (calls_made calls.now answers.old) }
-        ensures shows_the_list { (u : Unbuffered) → Shows S.TokenSource.coming S.TokenSource.text self.old.stream u → ShowsTheList u out.old (calls_made calls.now answers.old) }
+        ensures replies { (u : Unbuffered) → Shows S.TokenSource self.old.stream u → map reply_of answers.new ≡ overwritten (replies u out.old calls.now) (map reply_of answers.old) }
+        ensures after { (u : Unbuffered) → Shows S.TokenSource self.old.stream u → Shows S.TokenSource self.new.stream (after_all u (calls_made calls.now answers.old)) }
+        ensures output { (u : Unbuffered) → Shows S.TokenSource self.old.stream u → out.new ≡ left_by_all u out.old (calls_made calls.now answers.old) }
+        ensures shows_the_list { (u : Unbuffered) → Shows S.TokenSource self.old.stream u → ShowsTheList u out.old (calls_made calls.now answers.old) }
     {
         if answers.len() < calls.len() {
             return Err(Refusal::ShortOutput);
@@ -140,7 +140,7 @@ impl<S: TokenSource> Session<S> {
 
     // Gives the source back, with what was not pulled. The marks come back first.
     pub fn close(self) -> S
-        ensures source { (u : Unbuffered) → Shows S.TokenSource.coming S.TokenSource.text self.stream u → GivenBack u (S.TokenSource.coming result) (S.TokenSource.text result) }
+        ensures source { (u : Unbuffered) → Shows S.TokenSource self.stream u → GivenBack u (S.TokenSource.coming result) (S.TokenSource.text result) }
     {
         let Session {
             mut stream,

@@ -8,7 +8,7 @@ use Rattle.runs.proofs.session.Session.close.Given as goal
 abbrev pub invariant-back : goal.invariant-back
 invariant-back g l =
     (l.marks.len ≡ l.stream.marks.out) × (falls l.marks.numbering ≡ true)
-    × ((u : Unbuffered) → Shows g.S.TokenSource.coming g.S.TokenSource.text l.initial.stream u → Kept (Shows g.S.TokenSource.coming g.S.TokenSource.text l.stream) u)
+    × ((u : Unbuffered) → Shows g.S.TokenSource l.initial.stream u → Kept (Shows g.S.TokenSource l.stream) u)
 
 abbrev pub decreases-back : goal.decreases-back
 decreases-back g l = l.marks.len
