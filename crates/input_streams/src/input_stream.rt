@@ -38,7 +38,7 @@ pub struct InputStream<D: InputData> {
 // Bytes, each a symbol of its own.
 pub type ByteStream<'a> = InputStream<CodePoints8<'a>>;
 
-// Code points that fit 8, 16 and 32 bits.
+// Code points that fit 8, 16 and 32 bits. Bytes are those of 8, so that one type has two names.
 pub type CodePoint8BitCharStream<'a> = InputStream<CodePoints8<'a>>;
 
 pub type CodePoint16BitCharStream<'a> = InputStream<CodePoints16<'a>>;

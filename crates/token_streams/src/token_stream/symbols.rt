@@ -1,4 +1,5 @@
-// An unbuffered token stream as a stream of symbols: the types of its tokens.
+// An unbuffered token stream as a stream of symbols: the types of its tokens. Each call is the stream's own of that name,
+// whose contract says more, since it speaks of tokens.
 ghost use Rattle.std.specs.Prelude.{◌≡◌, length, pos, negsuc};
 ghost use Rattle.std.proofs.Common.{sym};
 ghost use Rattle.windows.specs.Windows.{view};
