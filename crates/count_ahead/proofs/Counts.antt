@@ -1,12 +1,10 @@
 -- What is counted under a mark is what is counted without it. Assumes nothing.
 use Rattle.std.proofs.Common.{◌≡◌, ℕ, not, ◌||◌, leb, List, [], ◌∷◌, length, ℤ, IfOk, Ok, Err, Result, sym, refl, ap, ◌∙◌, subst}
 use Rattle.refusals.specs.declared.Refusal.{Refusal}
-use Rattle.refusals.specs.Answers.{Answer, gives, refuses, answer, unless}
+use Rattle.refusals.specs.Answers.{Answer, gives, answer, unless}
 use Rattle.streams.specs.declared.int_stream.IntStream.{Ghosts}
 use Rattle.streams.specs.Streams.{Symbol, Stream, beyond, with_marks}
-use Rattle.streams.specs.Calls.{when_open, mark_answer}
 use Rattle.streams.proofs.Moves.{beyond_marked}
-use Rattle.streams.proofs.Marking.{unmarked_first}
 use Rattle.streams.proofs.Steps.{unless_passed}
 use Rattle.streams.proofs.Trips.{Trip, tells, out}
 use Rattle.count_ahead.specs.Agreement.{agreed, Longest, numbers_coming, compared, some_beyond, tallied, counted}
@@ -20,12 +18,6 @@ tallied_marked : (s : Stream) (n : ℤ) (ms wanted : List ℤ) → tallied (with
 tallied_marked s n ms wanted = ap (λ b. unless b 3 (gives (agreed (numbers_coming s) wanted))) (beyond_alike (with_marks s (n ∷ ms)) s (beyond_marked s n ms) (compared s wanted))
 
 module _ {S : Type 0} (i : Ghosts S) where
-  -- where no mark was made, nothing is counted
-  pub counted_unmarked : (x : S) (n : ℤ) (m : ℕ) → refuses m ≡ mark_answer (i.status x) n → (wanted : List ℤ) (s : Stream) → i.shows x s → refuses m ≡ counted s wanted
-  counted_unmarked x n m e wanted s shown =
-      unmarked_first (i.status x) n m e (tallied s wanted)
-      ∙ ap (λ t. when_open t (unless (leb 255 (length t.marks)) 8 (tallied s wanted))) (sym (i.lawful x s shown).1)
-
   -- under a mark the count is the one that was asked for
   pub counted_marked : {x kept gone back : S} {number index : ℤ} → Trip i x kept gone back number index → (wanted : List ℤ) (a : Answer ℕ) → ((s : Stream) → i.shows kept s → a ≡ tallied s wanted) → (s : Stream) → i.shows x s → a ≡ counted s wanted
   counted_marked {x} {kept} t wanted a e s shown =

@@ -1,17 +1,17 @@
 -- Stepping along the symbols that agree, while a mark is out. Assumes nothing.
-use Rattle.std.proofs.Common.{◌≡◌, ℕ, ◌+◌, ◌<◌, ◌≤◌, Bool, true, false, List, ◌∷◌, length, get_or, drop, ℤ, pos, negsuc, sym, refl, ap, ◌∙◌, subst, add-zero, add_assoc, arith, w32, SFits, to_z, of_z}
+use Rattle.std.proofs.Common.{◌≡◌, ℕ, ◌+◌, ◌<◌, ◌≤◌, Bool, true, false, List, ◌∷◌, length, get_or, drop, ℤ, pos, negsuc, sym, refl, ap, ◌∙◌, subst, add-zero, add_assoc, arith, w32, SFits, to_z, of_z, rules}
 use Rattle.std.proofs.lemmas.List.{drop_more, drop_all, drop-drop, length-drop}
 use Rattle.std.proofs.lemmas.Int.{to_z-of_z}
-use Rattle.refusals.specs.Answers.{Answer, gives, refuses, unless, if_given}
+use Rattle.refusals.specs.Answers.{Answer, gives, refuses, unless}
 use Rattle.tokens.specs.Tokens.{same}
 use Rattle.streams.specs.declared.int_stream.IntStream.{Ghosts}
 use Rattle.streams.specs.Streams.{Symbol, Status, Stream, minus_one, is_eof, last_of, coming, ahead, beyond, moved, Lawful}
 use Rattle.streams.specs.Calls.{la, consume, consumed}
-use Rattle.streams.proofs.Equals.{same_minus_one}
-use Rattle.streams.proofs.Moves.{moved_moved, moved_here, beyond_moved, ahead_at, ahead_here}
+use Rattle.streams.proofs.Equals.{same_self, same_equal, same_minus_one}
+use Rattle.streams.proofs.Moves.{moved_moved, beyond_moved, ahead_at, ahead_here}
 use Rattle.streams.proofs.Steps.{la_here, consume_on, consumed_on, given_refused, eof_ends, eof_later}
 use Rattle.count_ahead.specs.Agreement.{tallied}
-use Rattle.count_ahead.proofs.Tallies.{tally, raised, raised_none, raised_more, tally_unwanted, tally_ended, tally_beyond, tally_differs, tally_agrees}
+use Rattle.count_ahead.proofs.Tallies.{tally, raised, raised_more, tally_unwanted, tally_ended, tally_beyond, tally_differs, tally_agrees}
 
 -- what is tallied from the n-th symbol on
 abbrev pub left_over : Stream → List ℤ → ℕ → Answer ℕ
@@ -21,12 +21,6 @@ left_over s wanted n = tally s (drop n (coming s)) (drop n wanted)
 pub record Walked (Shows : Stream → Type 0) (s : Stream) (wanted : List ℤ) (n : ℕ) : Type 0 where
   pub there : Shows (moved s (s.cursor + n))
   pub left : raised n (left_over s wanted n) ≡ tallied s wanted
-
-pub walked_none : (Shows : Stream → Type 0) (s : Stream) (wanted : List ℤ) → Lawful s → Shows s → Walked Shows s wanted 0
-walked_none Shows s wanted ok shown = record {
-  there = subst Shows (sym (ap (moved s) (add-zero s.cursor) ∙ moved_here s ok)) shown;
-  left = raised_none (tallied s wanted);
-}
 
 -- a turn of the walk: another number is wanted, and the stream is open and has a mark out
 pub record Turn (s : Stream) (wanted : List ℤ) (n : ℕ) : Type 0 where
@@ -123,18 +117,30 @@ module _ (s : Stream) (wanted : List ℤ) (n : ℕ) (t : Turn s wanted n) where
         left = goes_on agrees;
       }
 
--- where no more number is wanted
-pub ends_early : (s : Stream) (wanted : List ℤ) (n : ℕ) → length wanted ≤ n → raised n (left_over s wanted n) ≡ tallied s wanted → gives n ≡ tallied s wanted
-ends_early s wanted n past left =
-    let none = ap (tally s (drop n (coming s))) (drop_all n wanted past) ∙ tally_unwanted s (drop n (coming s)) in
-    ap gives (sym (add-zero n)) ∙ ap (raised n) (sym none) ∙ left
+-- a comparison of two numbers, which the code makes by their bits
+same_bits : (z w : ℤ) → SFits w32 z → SFits w32 w → of_z w32 z ≡ of_z w32 w → z ≡ w
+same_bits z w zf wf e = sym (to_z-of_z w32 z zf) ∙ ap (to_z w32) e ∙ to_z-of_z w32 w wf
 
--- a comparison as a call makes it
-pub told : (z w y : ℤ) (b : Bool) → SFits w32 z → SFits w32 w → b ≡ same (to_z w32 (of_z w32 z)) (to_z w32 (of_z w32 w)) → z ≡ y → same y w ≡ b
-told z w y b zf wf e is = ap (λ x. same x w) (sym is) ∙ sym (e ∙ (λ i. same (to_z-of_z w32 z zf i) (to_z-of_z w32 w wf i)))
+pub agrees : (z w y : ℤ) → SFits w32 z → SFits w32 w → of_z w32 z ≡ of_z w32 w → z ≡ y → same y w ≡ true
+agrees z w y zf wf e is = ap (λ x. same x w) (sym is ∙ same_bits z w zf wf e) ∙ same_self w
 
-pub told_eof : (z y : ℤ) (b : Bool) → SFits w32 z → b ≡ same (to_z w32 (of_z w32 z)) (negsuc 0) → z ≡ y → minus_one y ≡ b
-told_eof z y b zf e is = ap minus_one (sym is) ∙ sym (same_minus_one z) ∙ sym (e ∙ ap (λ x. same x (negsuc 0)) (to_z-of_z w32 z zf))
+pub differs : (z w y : ℤ) → (of_z w32 z ≡ of_z w32 w → ⊥) → z ≡ y → same y w ≡ false
+differs z w y ne is = go (same y w) refl
+  where
+    go : (b : Bool) → same y w ≡ b → b ≡ false
+    go false e = refl
+    go true e = absurd (ne (ap (of_z w32) (is ∙ same_equal y w e)))
+
+-- the wanted number that agrees is the EOF's, or it is not
+pub wants_eof : (w y : ℤ) → SFits w32 w → of_z w32 w ≡ 4294967295 → same y w ≡ true → minus_one y ≡ true
+wants_eof w y wf e agrees = let fits : SFits w32 (negsuc 0) = search rules in ap minus_one (same_equal y w agrees ∙ same_bits w (negsuc 0) wf fits e)
+
+pub wants_more : (w y : ℤ) → (of_z w32 w ≡ 4294967295 → ⊥) → same y w ≡ true → minus_one y ≡ false
+wants_more w y ne agrees = go (minus_one y) refl
+  where
+    go : (b : Bool) → minus_one y ≡ b → b ≡ false
+    go false e = refl
+    go true e = absurd (ne (ap (of_z w32) (sym (same_equal y w agrees) ∙ same_equal y (negsuc 0) (same_minus_one y ∙ e))))
 
 -- a walk of a stream of some kind from where it was to where it is
 module _ {S : Type 0} (i : Ghosts S) where
@@ -142,9 +148,6 @@ module _ {S : Type 0} (i : Ghosts S) where
     pub walked : (s : Stream) → i.shows from s → Walked (i.shows to) s wanted n
     pub status : i.status to ≡ i.status from
     pub unaltered : i.unaltered from to
-
-  pub walk_none : (x : S) (wanted : List ℤ) → Walk x x wanted 0
-  walk_none x wanted = record { walked = λ s shown. walked_none (i.shows x) s wanted (i.lawful x s shown).0 shown; status = refl; unaltered = i.same x }
 
   -- a look changes nothing
   pub walk_looked : {x y : S} (z : S) {wanted : List ℤ} {n : ℕ} → Walk x y wanted n → ((s : Stream) → i.shows y s → i.shows z s) → i.status z ≡ i.status y → i.unaltered y z → Walk x z wanted n
@@ -161,9 +164,6 @@ module _ {S : Type 0} (i : Ghosts S) where
   pub seen_here : {x y : S} {wanted : List ℤ} {n : ℕ} (z : ℤ) → Walk x y wanted n → ((s : Stream) → i.shows x s → Turn s wanted n) → ((s : Stream) → i.shows y s → gives z ≡ la s i.nothing (pos 1)) → (s : Stream) → i.shows x s → z ≡ (here s n).number
   seen_here {wanted} {n} z w turns e s shown = la_now s wanted n (turns s shown) i.nothing z (e (at s n) (w.walked s shown).there)
 
-  -- a step on, refused and accepted
-  pub walk_stayed : {x y : S} (z : S) {wanted : List ℤ} {n m : ℕ} → Walk x y wanted n → ((s : Stream) → i.shows y s → refuses m ≡ consume s) → ((s : Stream) → i.shows y s → i.shows z (consumed s)) → i.status z ≡ i.status y → i.unaltered y z → Walk x z wanted n
-  walk_stayed z old e after status unaltered = walk_looked z old (λ s shown. subst (i.shows z) (ap (λ a. if_given a (moved s (s.cursor + 1)) s) (sym (e s shown))) (after s shown)) status unaltered
-
+  -- a step on
   pub walk_more : {x y : S} (z : S) {wanted : List ℤ} {n : ℕ} → Walk x y wanted n → ((s : Stream) → i.shows x s → Walked (i.shows z) s wanted (n + 1)) → i.status z ≡ i.status y → i.unaltered y z → Walk x z wanted (n + 1)
   walk_more {x} {y} z old walked status unaltered = record { walked = walked; status = status ∙ old.status; unaltered = i.chained x y z old.unaltered unaltered }

@@ -8,7 +8,6 @@ ghost use Rattle.count_ahead.specs.Agreement.{numbers_coming, Longest, tallied, 
 
 use refusals::Refusal;
 use streams::int_stream::{EOF, IntStream};
-use tokens::token::same;
 
 // Steps along the symbols that agree, and stays at the last one that was compared.
 fn agreeing<S: IntStream>(stream: &mut S, wanted: &[i32]) -> Result<usize, Refusal>
@@ -19,23 +18,18 @@ fn agreeing<S: IntStream>(stream: &mut S, wanted: &[i32]) -> Result<usize, Refus
     ensures status { S.IntStream.status stream.new ≡ S.IntStream.status stream.old }
     ensures unaltered { S.IntStream.unaltered stream.old stream.new }
 {
-    let mut count = 0;
-    'walk: while count < wanted.len() {
-        let number = stream.la(1)?;
-        if !same(number, wanted[count]) {
+    for (count, number) in wanted.iter().enumerate() {
+        if stream.la(1)? != *number {
             return Ok(count);
         }
-        count += 1;
+        let agreed = count + 1;
         // Nothing comes after the EOF, and what nobody wants need not be seen.
-        if count == wanted.len() {
-            return Ok(count);
-        }
-        if same(number, EOF) {
-            return Ok(count);
+        if *number == EOF || agreed == wanted.len() {
+            return Ok(agreed);
         }
         stream.consume()?;
     }
-    Ok(count)
+    Ok(wanted.len())
 }
 
 // How many symbols, from the cursor on and through the EOF, agree with the front of the wanted numbers.
@@ -51,8 +45,6 @@ pub fn count_ahead<S: IntStream>(stream: &mut S, wanted: &[i32]) -> Result<usize
     let count = agreeing(stream, wanted);
     // While the mark is out the way back is open, so there is no refusal to pass on.
     let _ = stream.seek(here);
-    match stream.release(mark) {
-        Ok(()) => count,
-        Err(_) => unreachable(),
-    }
+    stream.release(mark).unwrap();
+    count
 }

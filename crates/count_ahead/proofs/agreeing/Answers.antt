@@ -1,107 +1,63 @@
-use Rattle.std.proofs.Common.{◌∙◌, arith, rules}
+use Rattle.std.proofs.Common.{◌∙◌, ⊎_elim, pos, get_or, arith, rules}
 use Rattle.streams.proofs.Steps.{passed_on}
-use Rattle.count_ahead.proofs.Walks.{walk_none, walk_looked, walk_stayed, walk_more, turning, seen_here, la_not_refused, told, told_eof, ends_differing, ends_unwanted, ends_at_eof, ends_unseen, ends_early, walked_more}
+use Rattle.count_ahead.proofs.Walks.{here, walk_looked, walk_more, turning, seen_here, la_not_refused, agrees, differs, wants_eof, wants_more, ends_differing, ends_unwanted, ends_at_eof, ends_unseen, walked_more}
 use Rattle.count_ahead.proofs.agreeing.Goals as goal
 
-pub walk-init : goal.walk-init
-walk-init g c = walk_none g.S.IntStream c.args.stream.now c.args.wanted.now
-
-pub returns-in_err-number : goal.returns-in_err-number
-returns-in_err-number g c =
+pub returns-in_err-la-clause-value : goal.returns-in_err-la-clause-value
+returns-in_err-la-clause-value g c =
     let i = g.S.IntStream in
-    let la = c.la.ensures in
-    let w = walk_looked i c.la.new.self c.walk.invariant la.after la.status la.unaltered in
-    let turns = turning i c.requires.opened c.requires.marked c.walk.invariant c.walk-test.true in
-    record {
-      value = λ s shown. absurd (la_not_refused s _ _ (turns s shown) i.nothing _ (c.in_err-number.ensures.value _ (c.walk.invariant.walked s shown).there));
-      after = λ s shown. (_, (w.walked s shown).there);
-      status = w.status;
-      unaltered = w.unaltered;
-    }
+    let turns = turning i c.requires.opened c.requires.marked c.loop-count.invariant c.loop-count-test.true in
+    λ s shown. absurd (la_not_refused s _ _ (turns s shown) i.nothing _ (c.in_err-la.ensures.value _ (c.loop-count.invariant.walked s shown).there))
 
-pub returns-then-not-same : goal.returns-then-not-same
-returns-then-not-same g c =
+pub returns-then-branch-number-clause-value : goal.returns-then-branch-number-clause-value
+returns-then-branch-number-clause-value g c =
     let i = g.S.IntStream in
-    let la = c.la.ensures in
-    let w = walk_looked i c.la.new.self c.walk.invariant la.after la.status la.unaltered in
-    let turns = turning i c.requires.opened c.requires.marked c.walk.invariant c.walk-test.true in
-    let is = seen_here i _ c.walk.invariant turns c.in_ok-number.ensures.value in
-    record {
-      value = λ s shown. ends_differing s _ _ (turns s shown) _ (told _ _ _ _ (search rules) (search rules) c.if-not-same.ensures.value (is s shown));
-      after = λ s shown. (_, (w.walked s shown).there);
-      status = w.status;
-      unaltered = w.unaltered;
-    }
+    let n = c.loop-count.count in
+    let number = get_or c.args.wanted.now n (pos 0) in
+    let turns = turning i c.requires.opened c.requires.marked c.loop-count.invariant c.loop-count-test.true in
+    let is = seen_here i c.in_ok-la.field-0 c.loop-count.invariant turns c.in_ok-la.ensures.value in
+    λ s shown. ends_differing s _ n (turns s shown) (pos 0) (differs c.in_ok-la.field-0 number (here s n).number c.if-branch-number.true (is s shown))
 
-pub returns-then-count-wanted : goal.returns-then-count-wanted
-returns-then-count-wanted g c =
+pub returns-then-number-clause-value : goal.returns-then-number-clause-value
+returns-then-number-clause-value g c =
     let i = g.S.IntStream in
-    let la = c.la.ensures in
-    let w = walk_looked i c.la.new.self c.walk.invariant la.after la.status la.unaltered in
-    let turns = turning i c.requires.opened c.requires.marked c.walk.invariant c.walk-test.true in
-    let is = seen_here i _ c.walk.invariant turns c.in_ok-number.ensures.value in
-    record {
-      value = λ s shown. ends_unwanted s _ _ (turns s shown) _ (told _ _ _ _ (search rules) (search rules) c.if-not-same.ensures.value (is s shown)) c.if-count-wanted.true;
-      after = λ s shown. (_, (w.walked s shown).there);
-      status = w.status;
-      unaltered = w.unaltered;
-    }
+    let n = c.loop-count.count in
+    let number = get_or c.args.wanted.now n (pos 0) in
+    let turns = turning i c.requires.opened c.requires.marked c.loop-count.invariant c.loop-count-test.true in
+    let is = seen_here i c.in_ok-la.field-0 c.loop-count.invariant turns c.in_ok-la.ensures.value in
+    λ s shown.
+    let alike = agrees c.in_ok-la.field-0 number (here s n).number (search rules) (search rules) c.if-branch-number.false (is s shown) in
+    ⊎_elim (λ eof. ends_at_eof s _ n (turns s shown) (pos 0) alike (wants_eof number (here s n).number (search rules) eof alike)) (λ last. ends_unwanted s _ n (turns s shown) (pos 0) alike last.1) c.then-number.either
 
-pub returns-then-same : goal.returns-then-same
-returns-then-same g c =
+pub returns-in_err-consume-clause-value : goal.returns-in_err-consume-clause-value
+returns-in_err-consume-clause-value g c =
     let i = g.S.IntStream in
-    let la = c.la.ensures in
-    let w = walk_looked i c.la.new.self c.walk.invariant la.after la.status la.unaltered in
-    let turns = turning i c.requires.opened c.requires.marked c.walk.invariant c.walk-test.true in
-    let is = seen_here i _ c.walk.invariant turns c.in_ok-number.ensures.value in
-    record {
-      value = λ s shown.
-          ends_at_eof s _ _ (turns s shown) _ (told _ _ _ _ (search rules) (search rules) c.if-not-same.ensures.value (is s shown))
-          (told_eof _ _ _ (search rules) c.if-same.ensures.value (is s shown));
-      after = λ s shown. (_, (w.walked s shown).there);
-      status = w.status;
-      unaltered = w.unaltered;
-    }
+    let n = c.loop-count.count in
+    let number = get_or c.args.wanted.now n (pos 0) in
+    let w = walk_looked i c.la.new.self c.loop-count.invariant c.la.ensures.after c.la.ensures.status c.la.ensures.unaltered in
+    let turns = turning i c.requires.opened c.requires.marked c.loop-count.invariant c.loop-count-test.true in
+    let is = seen_here i c.in_ok-la.field-0 c.loop-count.invariant turns c.in_ok-la.ensures.value in
+    λ s shown.
+    let alike = agrees c.in_ok-la.field-0 number (here s n).number (search rules) (search rules) c.if-branch-number.false (is s shown) in
+    passed_on c.from_residual-in_err-consume.result _ c.from_residual-in_err-consume.ensures.1
+    ∙ ends_unseen s _ n (turns s shown) (pos 0) alike (wants_more number (here s n).number c.if-number.false alike) (omega arith) _ (c.in_err-consume.ensures.value _ (w.walked s shown).there)
 
-pub walk-preserved : goal.walk-preserved
-walk-preserved g c =
+pub returns-in_err-consume-clause-unaltered : goal.returns-in_err-consume-clause-unaltered
+returns-in_err-consume-clause-unaltered g c =
+    let chained = g.S.IntStream.chained in
+    chained _ _ _ c.loop-count.invariant.unaltered (chained _ _ _ c.la.ensures.unaltered c.consume.ensures.unaltered)
+
+pub loop-count-preserved : goal.loop-count-preserved
+loop-count-preserved g c =
     let i = g.S.IntStream in
-    let la = c.la.ensures in
+    let n = c.loop-count.count in
+    let number = get_or c.args.wanted.now n (pos 0) in
     let step = c.in_ok-consume.ensures in
-    let w = walk_looked i c.la.new.self c.walk.invariant la.after la.status la.unaltered in
-    let turns = turning i c.requires.opened c.requires.marked c.walk.invariant c.walk-test.true in
-    let is = seen_here i _ c.walk.invariant turns c.in_ok-number.ensures.value in
+    let w = walk_looked i c.la.new.self c.loop-count.invariant c.la.ensures.after c.la.ensures.status c.la.ensures.unaltered in
+    let turns = turning i c.requires.opened c.requires.marked c.loop-count.invariant c.loop-count-test.true in
+    let is = seen_here i c.in_ok-la.field-0 c.loop-count.invariant turns c.in_ok-la.ensures.value in
     walk_more i c.consume.new.self w
     (λ s shown.
-    walked_more s _ _ (turns s shown) _ (told _ _ _ _ (search rules) (search rules) c.if-not-same.ensures.value (is s shown)) (told_eof _ _ _ (search rules) c.if-same.ensures.value (is s shown)) _
-    (step.value _ (w.walked s shown).there) (step.after _ (w.walked s shown).there))
+    let alike = agrees c.in_ok-la.field-0 number (here s n).number (search rules) (search rules) c.if-branch-number.false (is s shown) in
+    walked_more s _ n (turns s shown) (pos 0) alike (wants_more number (here s n).number c.if-number.false alike) _ (step.value _ (w.walked s shown).there) (step.after _ (w.walked s shown).there))
     step.status step.unaltered
-
-pub returns-in_err-consume : goal.returns-in_err-consume
-returns-in_err-consume g c =
-    let i = g.S.IntStream in
-    let la = c.la.ensures in
-    let step = c.in_err-consume.ensures in
-    let w = walk_looked i c.la.new.self c.walk.invariant la.after la.status la.unaltered in
-    let stayed = walk_stayed i c.consume.new.self w step.value step.after step.status step.unaltered in
-    let turns = turning i c.requires.opened c.requires.marked c.walk.invariant c.walk-test.true in
-    let is = seen_here i _ c.walk.invariant turns c.in_ok-number.ensures.value in
-    record {
-      value = λ s shown.
-          passed_on c.from_residual-in_err-consume.result _ c.from_residual-in_err-consume.ensures.1
-          ∙ ends_unseen s _ _ (turns s shown) _ (told _ _ _ _ (search rules) (search rules) c.if-not-same.ensures.value (is s shown)) (told_eof _ _ _ (search rules) c.if-same.ensures.value (is s shown))
-          (omega arith) _ (step.value _ (w.walked s shown).there);
-      after = λ s shown. (_, (stayed.walked s shown).there);
-      status = stayed.status;
-      unaltered = stayed.unaltered;
-    }
-
-pub returns : goal.returns
-returns g c =
-    let w = c.walk.invariant in
-    record {
-      value = λ s shown. ends_early s _ _ c.walk-test.false (w.walked s shown).left;
-      after = λ s shown. (_, (w.walked s shown).there);
-      status = w.status;
-      unaltered = w.unaltered;
-    }

@@ -1,26 +1,13 @@
-use Rattle.std.proofs.Common.{◌∙◌, subst, w32, SFits, rules}
-use Rattle.std.proofs.lemmas.Result.{IfOk-from_err}
+use Rattle.std.proofs.Common.{subst, w32, SFits, rules}
 use Rattle.std.proofs.lemmas.Int.{to_z-of_z}
 use Rattle.refusals.specs.Answers.{answer}
 use Rattle.streams.specs.Calls.{sought_out}
-use Rattle.streams.proofs.Steps.{passed_on}
-use Rattle.streams.proofs.Trips.{Trip, unmarked_status, unmarked_shows, done_status, done_shows}
-use Rattle.count_ahead.proofs.Counts.{counted_marked, counted_unmarked, counted_longest}
+use Rattle.streams.proofs.Trips.{Trip, unmarked_shows, done_status, done_shows}
+use Rattle.count_ahead.proofs.Counts.{counted_marked, counted_longest}
 use Rattle.count_ahead.proofs.count_ahead.Goals as goal
 
-pub returns-in_err-mark : goal.returns-in_err-mark
-returns-in_err-mark g c =
-    let i = g.S.IntStream in
-    let x = c.args.stream.now in
-    let mark = c.in_err-mark.ensures in
-    let r = c.from_residual-in_err-mark in
-    record {
-      value = λ s shown. passed_on r.result _ r.ensures.1 ∙ counted_unmarked i x _ _ mark.value c.args.wanted.now s shown;
-      longest = λ s shown. IfOk-from_err r.result _ r.ensures.0;
-      after = unmarked_shows i x c.mark.new.self _ mark.value mark.status mark.after;
-      status = unmarked_status i x c.mark.new.self _ mark.value mark.status;
-      unaltered = mark.unaltered;
-    }
+pub returns-in_err-mark-clause-after : goal.returns-in_err-mark-clause-after
+returns-in_err-mark-clause-after g c = let mark = c.in_err-mark.ensures in unmarked_shows g.S.IntStream c.args.stream.now c.mark.new.self _ mark.value mark.status mark.after
 
 pub returns : goal.returns
 returns g c =
@@ -31,7 +18,7 @@ returns g c =
     let mark = c.in_ok-mark.ensures in
     let walk = c.agreeing-count.ensures in
     let back = c.seek.ensures in
-    let end = c.in-Ok.ensures in
+    let end = c.release.ensures in
     let trip : Trip i x c.mark.new.self c.agreeing-count.new.stream c.seek.new.self c.in_ok-mark.mark.number here = record {
       noted = c.in_ok-here.ensures.value;
       made = mark.value;
