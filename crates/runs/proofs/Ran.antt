@@ -1,9 +1,10 @@
 -- A list of calls, one after the other. Assumes nothing.
-use Rattle.std.proofs.Common.{◌≡◌, ℕ, Option, suc, ◌+◌, ◌<◌, ◌≤◌, ltb, List, [], ◌∷◌, ◌++◌, map, length, get_or, drop, set, sym, refl, ap, ◌∙◌, subst, arith}
+use Rattle.std.proofs.Common.{◌≡◌, ℕ, Option, suc, ◌+◌, ◌<◌, ◌≤◌, ltb, List, [], ◌∷◌, ◌++◌, map, length, get_or, drop, set, sym, refl, ap, ◌∙◌, subst, arith, Result}
 use Rattle.std.specs.List.{AllByRecursion}
 use Rattle.std.proofs.lemmas.List.{append_assoc, append-nil, length_push, length-map, drop_more, drop_all, set_at, map-set}
 use Rattle.std.proofs.ByRecursion.{All-push}
 use Rattle.std.proofs.lemmas.Bool.{le-ltb, lt-ltb, cond-true, cond-false}
+use Rattle.refusals.specs.declared.Refusal.{Refusal}
 use Rattle.refusals.specs.Outputs.{overwritten}
 use Rattle.tokens.specs.declared.token.Token.{Token}
 use Rattle.streams.specs.Streams.{Status}
@@ -18,7 +19,7 @@ use Rattle.runs.specs.Laws.{OfList, ShowsTheList}
 use Rattle.runs.proofs.Lists.{feed_after}
 
 -- after the first calls: what they answered, and what is left to do
-pub record Ran (u : Unbuffered) (old : List ℕ) (cs : List Call) (before : List Reply) (at : ℕ) (w : Unbuffered) (out : List ℕ) (now : List Reply) : Type 0 where
+pub record Ran (u : Unbuffered) (old : List ℕ) (cs : List Call) (before : List (Result Reply Refusal)) (at : ℕ) (w : Unbuffered) (out : List ℕ) (now : List (Result Reply Refusal)) : Type 0 where
   pub given : List Replied
   pub many : length given ≡ at
   pub here : map reply_of now ≡ given ++ drop at (map reply_of before)
@@ -28,15 +29,15 @@ pub record Ran (u : Unbuffered) (old : List ℕ) (cs : List Call) (before : List
   pub same_feed : w.feed ≡ u.feed
   pub tokens : AllByRecursion (OfList u.feed.list) given
 
-pub record Going (shown : Unbuffered → Type 0) (u : Unbuffered) (old : List ℕ) (cs : List Call) (before : List Reply) (at : ℕ) (out : List ℕ) (now : List Reply) : Type 0 where
+pub record Going (shown : Unbuffered → Type 0) (u : Unbuffered) (old : List ℕ) (cs : List Call) (before : List (Result Reply Refusal)) (at : ℕ) (out : List ℕ) (now : List (Result Reply Refusal)) : Type 0 where
   pub stream : Unbuffered
   pub is_shown : shown stream
   pub ran : Ran u old cs before at stream out now
 
-pub ran_none : (u : Unbuffered) (old : List ℕ) (cs : List Call) (before : List Reply) → Ran u old cs before 0 u old before
+pub ran_none : (u : Unbuffered) (old : List ℕ) (cs : List Call) (before : List (Result Reply Refusal)) → Ran u old cs before 0 u old before
 ran_none u old cs before = record { given = []; many = refl; here = refl; all = refl; after_is = refl; left_is = refl; same_feed = refl; tokens = tt }
 
-pub ran_more : (u : Unbuffered) (old : List ℕ) (cs : List Call) (before : List Reply) (at : ℕ) (w : Unbuffered) (out : List ℕ) (now : List Reply) (c : Call) (new : List ℕ) (r : Reply) → Ran u old cs before at w out now → at < length before → drop at cs ≡ c ∷ drop (at + 1) cs → reply_of r ≡ replied w out c → new ≡ left_by w out c → OfList w.feed.list (replied w out c) → Ran u old cs before (at + 1) (after w c) new (set now at r)
+pub ran_more : (u : Unbuffered) (old : List ℕ) (cs : List Call) (before : List (Result Reply Refusal)) (at : ℕ) (w : Unbuffered) (out : List ℕ) (now : List (Result Reply Refusal)) (c : Call) (new : List ℕ) (r : Result Reply Refusal) → Ran u old cs before at w out now → at < length before → drop at cs ≡ c ∷ drop (at + 1) cs → reply_of r ≡ replied w out c → new ≡ left_by w out c → OfList w.feed.list (replied w out c) → Ran u old cs before (at + 1) (after w c) new (set now at r)
 ran_more u old cs before at w out now c new r ran inside front replies_so left_so of =
     let xs = map reply_of before in
     let x = replied w out c in
@@ -74,7 +75,7 @@ the_law u out cs w v coming text cursor b status last same tokens t =
     }
 
 -- where the answers have no room, no call is made
-module _ (u : Unbuffered) (old : List ℕ) (cs : List Call) (before : List Reply) (short : length before < length cs) where
+module _ (u : Unbuffered) (old : List ℕ) (cs : List Call) (before : List (Result Reply Refusal)) (short : length before < length cs) where
   pub none_made : calls_made cs before ≡ []
   none_made = cond-true (ltb (length before) (length cs)) [] cs (lt-ltb (length before) (length cs) short)
 
@@ -84,32 +85,31 @@ module _ (u : Unbuffered) (old : List ℕ) (cs : List Call) (before : List Reply
       sym (cond-true (ltb (length (map reply_of before)) (length (replies u old cs))) (map reply_of before) _ (lt-ltb (length (map reply_of before)) (length (replies u old cs)) few))
 
 -- where they have, all are made
-module _ (u : Unbuffered) (old : List ℕ) (cs : List Call) (before : List Reply) (at : ℕ) (w : Unbuffered) (out : List ℕ) (now : List Reply) (room : length cs ≤ length before) (over : length cs ≤ at) (within : at ≤ length cs) (ran : Ran u old cs before at w out now) where
-  pub all_made : calls_made cs before ≡ cs
-  all_made = cond-false (ltb (length before) (length cs)) [] cs (le-ltb (length before) (length cs) room)
+pub record Finished (u : Unbuffered) (old : List ℕ) (cs : List Call) (before : List (Result Reply Refusal)) (w : Unbuffered) (out : List ℕ) (now : List (Result Reply Refusal)) : Type 0 where
+  pub made : calls_made cs before ≡ cs
+  pub replied : map reply_of now ≡ overwritten (replies u old cs) (map reply_of before)
+  pub after_is : after_all u cs ≡ w
+  pub left_is : left_by_all u old cs ≡ out
+  pub same_feed : w.feed ≡ u.feed
+  pub tokens : AllByRecursion (OfList u.feed.list) (replies u old cs)
 
-  none_left : drop at cs ≡ []
-  none_left = drop_all at cs over
-
-  given_all : ran.given ≡ replies u old cs
-  given_all = sym (append-nil ran.given) ∙ ap (λ l. ran.given ++ replies w out l) (sym none_left) ∙ sym ran.all
-
-  pub all_after : after_all u cs ≡ w
-  all_after = ran.after_is ∙ ap (after_all w) none_left
-
-  pub all_left : left_by_all u old cs ≡ out
-  all_left = ran.left_is ∙ ap (left_by_all w out) none_left
-
-  pub all_tokens : AllByRecursion (OfList u.feed.list) (replies u old cs)
-  all_tokens = subst (AllByRecursion (OfList u.feed.list)) given_all ran.tokens
-
-  pub all_replied : map reply_of now ≡ overwritten (replies u old cs) (map reply_of before)
-  all_replied =
-      let items = replies u old cs in
-      let long : length items ≡ at = ap length (sym given_all) ∙ ran.many in
-      let fits : length items ≤ length (map reply_of before) = omega (arith, length-map before reply_of, long) in
-      ran.here ∙ (λ i. given_all i ++ drop (sym long i) (map reply_of before))
-      ∙ sym (cond-false (ltb (length (map reply_of before)) (length items)) (map reply_of before) (items ++ drop (length items) (map reply_of before)) (le-ltb (length (map reply_of before)) (length items) fits))
+pub finished : (u : Unbuffered) (old : List ℕ) (cs : List Call) (before : List (Result Reply Refusal)) (at : ℕ) (w : Unbuffered) (out : List ℕ) (now : List (Result Reply Refusal)) → length cs ≤ length before → at ≡ length cs → Ran u old cs before at w out now → Finished u old cs before w out now
+finished u old cs before at w out now room over ran =
+    let none_left = drop_all at cs (omega arith) in
+    let given_all : ran.given ≡ replies u old cs = sym (append-nil ran.given) ∙ ap (λ l. ran.given ++ replies w out l) (sym none_left) ∙ sym ran.all in
+    let items = replies u old cs in
+    let long : length items ≡ at = ap length (sym given_all) ∙ ran.many in
+    let fits : length items ≤ length (map reply_of before) = omega (arith, length-map before reply_of, long) in
+    record {
+      made = cond-false (ltb (length before) (length cs)) [] cs (le-ltb (length before) (length cs) room);
+      replied =
+          ran.here ∙ (λ i. given_all i ++ drop (sym long i) (map reply_of before))
+          ∙ sym (cond-false (ltb (length (map reply_of before)) (length items)) (map reply_of before) (items ++ drop (length items) (map reply_of before)) (le-ltb (length (map reply_of before)) (length items) fits));
+      after_is = ran.after_is ∙ ap (after_all w) none_left;
+      left_is = ran.left_is ∙ ap (left_by_all w out) none_left;
+      same_feed = ran.same_feed;
+      tokens = subst (AllByRecursion (OfList u.feed.list)) given_all ran.tokens;
+    }
 
 -- a stream over the same list, with as much pulled, is shown
 pub record Kept (shown : Unbuffered → Type 0) (u : Unbuffered) : Type 0 where

@@ -1,5 +1,5 @@
 -- A walk through a window. Assumes nothing.
-use Rattle.std.proofs.Common.{◌≡◌, ℕ, Option, suc, ◌+◌, ◌-◌, ◌<◌, ◌≤◌, min, true, List, [], length, get_or, ℤ, pos, Some, sym, refl, ap, ◌∙◌, ⊎_elim, arith}
+use Rattle.std.proofs.Common.{◌≡◌, ℕ, Option, ◌+◌, ◌-◌, ◌<◌, ◌≤◌, min, true, List, [], length, get_or, ℤ, pos, Some, sym, refl, ap, ◌∙◌, ⊎_elim, arith}
 use Rattle.std.proofs.lemmas.Bool.{cases_eq}
 use Rattle.refusals.specs.Answers.{gives, refuses, if_given}
 use Rattle.tokens.specs.declared.token.Token.{Token}
@@ -43,7 +43,7 @@ module _ (u : Unbuffered) (v : View) (coming : List Token) (text : Token → Lis
       sym (ahead_some u 0 (near 0 (omega arith)) ∙ lt_ahead u o (pos 1) 0 refl) ∙ ap (λ n. gives (Some (token_at u n))) here
 
 -- one step more
-pub walking_on : (shown : Unbuffered → Type 0) (shown' : Unbuffered → Type 0) (list : List Token) (steps : ℕ) → (w : Walking shown list steps) → (v : View) (coming : List Token) (text : Token → List ℕ) (cursor : ℕ) (before : Option Token) (status : Status) → Together w.stream v coming text cursor before status → shown' (after_consume w.stream) → Walking shown' list (suc steps)
+pub walking_on : (shown : Unbuffered → Type 0) (shown' : Unbuffered → Type 0) (list : List Token) (steps : ℕ) → (w : Walking shown list steps) → (v : View) (coming : List Token) (text : Token → List ℕ) (cursor : ℕ) (before : Option Token) (status : Status) → Together w.stream v coming text cursor before status → shown' (after_consume w.stream) → Walking shown' list (steps + 1)
 walking_on shown shown' list steps w v coming text cursor before status t next =
     let u = w.stream in
     let s = step u v coming text cursor before status t w.is_open w.unmarked in

@@ -1,10 +1,11 @@
 -- What a call answered, by values and the numbers of refusals. Assumes nothing.
-use Rattle.std.specs.Prelude.{ℕ, ℤ, Some, Option}
+use Rattle.std.specs.Prelude.{ℕ, ℤ, Some, Option, Ok, Err, Result}
+use Rattle.refusals.specs.declared.Refusal.{Refusal}
 use Rattle.refusals.specs.Answers.{Answer, gives, refuses}
 use Rattle.refusals.specs.Numbers as refusals
 use Rattle.tokens.specs.declared.token.Token.{Token as Record}
 use Rattle.runs.specs.declared.call.Reply.{Reply}
-use Rattle.runs.specs.declared.call.Reply.TheVariants.{Done, Number, Count, Token, Refused}
+use Rattle.runs.specs.declared.call.Reply.TheVariants.{Done, Number, Count, Token}
 
 pub data Replied : Type 0 where
   done : Replied
@@ -13,12 +14,12 @@ pub data Replied : Type 0 where
   token : Option Record → Replied
   refused : ℕ → Replied
 
-abbrev pub reply_of : Reply → Replied
-reply_of Done = done
-reply_of (Number z) = number z
-reply_of (Count n) = count n
-reply_of (Token t) = token t
-reply_of (Refused e) = refused (refusals.number e)
+abbrev pub reply_of : Result Reply Refusal → Replied
+reply_of (Ok Done) = done
+reply_of (Ok (Number z)) = number z
+reply_of (Ok (Count n)) = count n
+reply_of (Ok (Token t)) = token t
+reply_of (Err e) = refused (refusals.number e)
 
 abbrev pub as_done : Answer (Unit {0}) → Replied
 as_done (gives u) = done

@@ -19,11 +19,9 @@ pub fn token_after<S: TokenSource + Drop>(
 {
     let mut stream = UnbufferedTokenStream::new_unbuffered(token_source);
     stream.open(capacity)?;
-    let mut left = steps;
-    'step: while left > 0 {
+    for _ in 0..steps {
         // The EOF is not passed: a step from there is refused, and moves nothing.
         let _ = stream.consume();
-        left -= 1;
     }
     stream.lt(1)
 }

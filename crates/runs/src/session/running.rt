@@ -11,7 +11,7 @@ ghost use Rattle.runs.specs.Replies.{reply_of};
 ghost use Rattle.runs.specs.Runs.{replied, after, left_by, replies, after_all, left_by_all, run_answer, calls_made};
 ghost use Rattle.runs.specs.Laws.{ShowsTheList, GivenBack};
 
-use crate::call::{Call, Reply, counted, done, got, looked, number};
+use crate::call::{Call, Reply};
 use crate::session::Session;
 use refusals::Refusal;
 use streams::mark::{Kept, Mark, Marks, Numbering, Pile};
@@ -24,20 +24,8 @@ fn stranger(number: i32) -> (Marks, Mark)
     ensures latest { numbers result.0.numbering result.0.out ≡ number ∷ [] }
 {
     let mut marks = Marks::new(Numbering::Fixed(number));
-    match marks.mark() {
-        Ok(mark) => (marks, mark),
-        Err(_) => unreachable(),
-    }
-}
-
-// Gives a mark back that has the number of the latest.
-fn give_back(marks: &mut Marks, mark: Mark)
-    requires latest { latest (numbers marks.old.numbering marks.old.out) mark.number ≡ true }
-{
-    match marks.release(mark) {
-        Ok(()) => {}
-        Err(_) => unreachable(),
-    }
+    let mark = marks.mark().unwrap();
+    (marks, mark)
 }
 
 impl<S: TokenSource> Session<S> {
@@ -56,16 +44,10 @@ impl<S: TokenSource> Session<S> {
         ensures value { answer result ≡ mark_answer (status_of self.old.stream) (negsuc (length (status_of self.old.stream).marks)) }
         ensures after { (u : Unbuffered) → Shows S.TokenSource self.old.stream u → Shows S.TokenSource self.new.stream (after_mark u (negsuc (length (status_of self.old.stream).marks))) }
     {
-        match self.stream.mark() {
-            Ok(mark) => {
-                let number = mark.number();
-                match self.marks.push(mark) {
-                    Ok(()) => Ok(number),
-                    Err(_) => unreachable(),
-                }
-            }
-            Err(refusal) => Err(refusal),
-        }
+        let mark = self.stream.mark()?;
+        let number = mark.number();
+        self.marks.push(mark).unwrap();
+        Ok(number)
     }
 
     // Hands in a mark of a number. Marks are known by their numbers alone, so a stranger's does for any; the one on the pile
@@ -77,39 +59,40 @@ impl<S: TokenSource> Session<S> {
         let (mut stranger, mark) = stranger(number);
         match self.stream.release(mark) {
             Ok(()) => {
-                match self.marks.pop() {
-                    Some(own) => give_back(&mut stranger, own),
-                    None => unreachable(),
-                }
+                let own = self.marks.pop().unwrap();
+                stranger.release(own).unwrap();
                 Ok(())
             }
-            Err(kept) => {
-                let Kept { mark, refusal } = kept;
-                give_back(&mut stranger, mark);
+            Err(Kept { mark, refusal }) => {
+                stranger.release(mark).unwrap();
                 Err(refusal)
             }
         }
     }
 
     // Makes a call.
-    pub fn call(&mut self, call: Call, out: &mut [u8]) -> Reply
+    pub fn call(&mut self, call: Call, out: &mut [u8]) -> Result<Reply, Refusal>
         ensures value { (u : Unbuffered) → Shows S.TokenSource self.old.stream u → reply_of result ≡ replied u out.old call }
         ensures after { (u : Unbuffered) → Shows S.TokenSource self.old.stream u → Shows S.TokenSource self.new.stream (after u call) }
         ensures output { (u : Unbuffered) → Shows S.TokenSource self.old.stream u → out.new ≡ left_by u out.old call }
     {
         match call {
-            Call::Open(capacity) => done(self.stream.open(capacity)),
-            Call::Consume => done(self.stream.consume()),
-            Call::La(k) => number(self.stream.la(k)),
-            Call::Lt(k) => looked(self.stream.lt(k)),
-            Call::Seek(index) => done(self.stream.seek(index)),
-            Call::Index => number(self.stream.index()),
-            Call::Size => number(self.stream.size()),
-            Call::Mark => number(self.mark()),
-            Call::Release(mark) => done(self.release(mark)),
-            Call::Get(index) => got(self.stream.get(index)),
+            Call::Open(capacity) => self.stream.open(capacity).map(|()| Reply::Done),
+            Call::Consume => self.stream.consume().map(|()| Reply::Done),
+            Call::La(k) => self.stream.la(k).map(Reply::Number),
+            Call::Lt(k) => self.stream.lt(k).map(Reply::Token),
+            Call::Seek(index) => self.stream.seek(index).map(|()| Reply::Done),
+            Call::Index => self.stream.index().map(Reply::Number),
+            Call::Size => self.stream.size().map(Reply::Number),
+            Call::Mark => self.mark().map(Reply::Number),
+            Call::Release(mark) => self.release(mark).map(|()| Reply::Done),
+            Call::Get(index) => self
+                .stream
+                .get(index)
+                .map(|token| Reply::Token(Some(token))),
             Call::Text(start, stop) => {
-                counted(self.stream.get_text_from_interval(start, stop, out))
+                let written = self.stream.get_text_from_interval(start, stop, out);
+                written.map(Reply::Count)
             }
         }
     }
@@ -119,7 +102,7 @@ impl<S: TokenSource> Session<S> {
         &mut self,
         calls: &[Call],
         out: &mut [u8],
-        answers: &mut [Reply],
+        answers: &mut [Result<Reply, Refusal>],
     ) -> Result<usize, Refusal>
         ensures value { answer result ≡ run_answer calls.now answers.old }
         ensures replies { (u : Unbuffered) → Shows S.TokenSource self.old.stream u → map reply_of answers.new ≡ overwritten (replies u out.old calls.now) (map reply_of answers.old) }
@@ -130,12 +113,10 @@ impl<S: TokenSource> Session<S> {
         if answers.len() < calls.len() {
             return Err(Refusal::ShortOutput);
         }
-        let mut at = 0;
-        'run: while at < calls.len() {
-            answers[at] = self.call(calls[at], out);
-            at += 1;
+        for (at, call) in calls.iter().enumerate() {
+            answers[at] = self.call(*call, out);
         }
-        Ok(at)
+        Ok(calls.len())
     }
 
     // Gives the source back, with what was not pulled. The marks come back first.
@@ -147,10 +128,7 @@ impl<S: TokenSource> Session<S> {
             mut marks,
         } = self;
         'back: while let Some(mark) = marks.pop() {
-            match stream.release(mark) {
-                Ok(()) => {}
-                Err(_) => unreachable(),
-            }
+            stream.release(mark).unwrap();
         }
         stream.close()
     }

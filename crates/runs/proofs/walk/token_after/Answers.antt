@@ -1,4 +1,4 @@
-use Rattle.std.proofs.Common.{◌≡◌, suc, ◌-◌, sym, refl, ap, ◌∙◌, subst, arith, w32}
+use Rattle.std.proofs.Common.{◌≡◌, sym, refl, ap, ◌∙◌, subst, arith, w32}
 use Rattle.std.proofs.lemmas.Int.{to_z-of_z}
 use Rattle.streams.proofs.Steps.{passed_on}
 use Rattle.windows.specs.Windows.{admission}
@@ -14,14 +14,10 @@ returns-in_err-open g c =
     let refused = c.in_err-open.ensures.value _ c.new_unbuffered-stream.ensures.shows ∙ ap admission passed in
     record { every_token_comes = passed_on c.from_residual.result _ c.from_residual.ensures.1 ∙ stays_closed (g.S.TokenSource.coming c.args.token_source) c.args.capacity c.args.steps _ refused }
 
-pub step-preserved : goal.step-preserved
-step-preserved g c =
-    let one : c.args.steps - (c.step.left - 1) ≡ suc (c.args.steps - c.step.left) = omega (arith, c.step.invariant.1, c.step-test.true) in (
-      λ u s o m z.
-          let w = c.step.invariant.0 u s o m z in
-          subst (Walking _ u.feed.list) (sym one) (walking_on _ _ u.feed.list (c.args.steps - c.step.left) w _ _ _ _ _ _ w.is_shown (c.consume.ensures.after w.stream w.is_shown)),
-      omega (arith, c.step.invariant.1),
-    )
+pub loop-preserved : goal.loop-preserved
+loop-preserved g c = λ u s o m z.
+    let w = c.loop.invariant u s o m z in
+    walking_on _ _ u.feed.list c.loop.counter w _ _ _ _ _ _ w.is_shown (c.consume.ensures.after w.stream w.is_shown)
 
 pub returns : goal.returns
 returns g c =
@@ -31,6 +27,6 @@ returns g c =
     let admitted = c.in_ok-open.ensures.value _ start ∙ ap admission passed in
     let opened = opened_with (unopened feed) c.args.capacity in
     let shown = together_as (sym (ap (after_open (unopened feed)) passed ∙ opens feed c.args.capacity admitted)) refl refl refl refl refl refl (c.open.ensures.after _ start) in
-    let all : c.args.steps - c.step.left ≡ c.args.steps = omega (arith, c.step-test.false) in
-    let w = subst (Walking _ feed.list) all (c.step.invariant.0 opened shown refl refl refl) in
+    let all : c.loop.counter ≡ c.args.steps = omega arith in
+    let w = subst (Walking _ feed.list) all (c.loop.invariant opened shown refl refl refl) in
     record { every_token_comes = c.lt.ensures.value w.stream w.is_shown ∙ comes _ feed.list c.args.capacity c.args.steps w _ _ _ _ _ _ w.is_shown admitted }

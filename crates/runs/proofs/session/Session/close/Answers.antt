@@ -1,5 +1,5 @@
 use Rattle.std.proofs.Common.{length, sym, ap, ◌∙◌, arith}
-use Rattle.streams.specs.Marks.{falls}
+use Rattle.streams.specs.Marks.{falls, released}
 use Rattle.streams.proofs.Numbers.{length_numbers}
 use Rattle.token_streams.specs.Calls.{after_release}
 use Rattle.token_streams.specs.Shown.{status_of}
@@ -12,9 +12,9 @@ back-preserved g c =
     let t = status_of was in
     let left = c.release.new.self.marks in
     let n = c.in-Some.mark.number in
-    let less = shrunk t n c.in-Ok.ensures.value in
+    let less = shrunk t n (sym (ap released c.unwrap.ensures) ∙ c.release.ensures.value) in
     let out = length_numbers was.marks.numbering was.marks.out in
-    let now_out = sym (length_numbers left.numbering left.out) ∙ ap (λ t. length t.marks) c.in-Ok.ensures.status in (
+    let now_out = sym (length_numbers left.numbering left.out) ∙ ap (λ t. length t.marks) c.release.ensures.status in (
       omega (arith, c.in-Some.ensures.after, out, now_out, less, c.back.invariant.0),
       ap falls c.in-Some.ensures.numbering ∙ c.back.invariant.1,
       λ u s.
