@@ -17,11 +17,11 @@ use streams::mark::{Kept, Mark, Marks, Numbering};
 use tokens::token::same;
 
 // What follows a line.
-#[derive(Clone, Copy)]
-enum Next {
+#[derive(Drop)]
+enum Next<'a> {
     On,
     Mark,
-    Leave(Exit),
+    Leave(Exit<'a>),
 }
 
 // Gives the latest mark back.
@@ -85,12 +85,12 @@ fn held_as(held: Option<i32>, number: i32) -> bool
     }
 }
 
-fn take_call<S: Called>(
+fn take_call<'a, S: Called>(
     stream: &mut S,
-    session: &mut Session,
+    session: &mut Session<'a>,
     call: Call,
     held: Option<i32>,
-) -> Result<Next, AllocError>
+) -> Result<Next<'a>, AllocError>
     requires held { Held (S.IntStream.status stream.old) held }
     ensures status { Stays held (S.IntStream.status stream.old) (S.IntStream.status stream.new) }
     ensures same { session.new.lines ≡ session.old.lines }
@@ -125,7 +125,7 @@ fn take_line<'a, S: Called>(
     session: &mut Session<'a>,
     line: &'a Line,
     held: Option<i32>,
-) -> Result<Next, AllocError>
+) -> Result<Next<'a>, AllocError>
     requires held { Held (S.IntStream.status stream.old) held }
     ensures status { Stays held (S.IntStream.status stream.old) (S.IntStream.status stream.new) }
     ensures same { session.new.lines ≡ session.old.lines }
@@ -142,12 +142,12 @@ fn take_line<'a, S: Called>(
             Ok(Next::On)
         }
         Line::NewStream(kind) => {
-            if session.can_make(*kind) {
-                session.answer(Answer::Done)?;
-                return Ok(Next::Leave(Exit::Stream(*kind)));
-            }
-            session.answer(Answer::BadLine)?;
-            Ok(Next::On)
+            let Some(start) = session.start(*kind) else {
+                session.answer(Answer::BadLine)?;
+                return Ok(Next::On);
+            };
+            session.answer(Answer::Done)?;
+            Ok(Next::Leave(Exit::Stream(start)))
         }
         _ => Ok(Next::On),
     }
@@ -155,11 +155,11 @@ fn take_line<'a, S: Called>(
 
 // The lines up to one that ends the calls. `held` is the number of the latest mark, which whoever called holds.
 #[cycle(run_lines_run_marked)]
-pub(crate) fn run_lines<S: Called>(
+pub(crate) fn run_lines<'a, S: Called>(
     stream: &mut S,
-    session: &mut Session,
+    session: &mut Session<'a>,
     held: Option<i32>,
-) -> Result<Exit, AllocError>
+) -> Result<Exit<'a>, AllocError>
     requires held { Held (S.IntStream.status stream.old) held }
     ensures status { Stays held (S.IntStream.status stream.old) (S.IntStream.status stream.new) }
     ensures no_more { length session.new.lines.now ≤ length session.old.lines.now }
@@ -186,11 +186,11 @@ pub(crate) fn run_lines<S: Called>(
 
 // The lines while a mark is the latest. It is given back, whatever ends them.
 #[cycle(run_lines_run_marked)]
-fn run_marked<S: Called>(
+fn run_marked<'a, S: Called>(
     stream: &mut S,
-    session: &mut Session,
+    session: &mut Session<'a>,
     mark: Mark,
-) -> Result<Exit, AllocError>
+) -> Result<Exit<'a>, AllocError>
     requires open { (S.IntStream.status stream.old).opened ≡ true }
     requires latest { latest (S.IntStream.status stream.old).marks mark.number ≡ true }
     ensures status { S.IntStream.status stream.new ≡ status_with (S.IntStream.status stream.old) (earlier (S.IntStream.status stream.old).marks) }

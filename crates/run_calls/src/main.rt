@@ -9,24 +9,27 @@ mod source;
 mod text;
 
 use crate::levels::run_lines;
-use crate::session::{Exit, Session};
-use characters::char_stream::InputData;
+use crate::session::{Exit, Session, Start};
+use crate::source::AnySource;
+use crate::text::AnyText;
 use input_streams::input_stream::InputStream;
-use scripts::line::Kind;
 use scripts::reading::read_script;
 use std::alloc::AllocError;
 use std::io::{Read, Write};
 use token_streams::token_stream::UnbufferedTokenStream;
 
-// A character stream over the input, until another stream is made.
-fn run_chars(session: &mut Session) -> Result<Exit, AllocError> {
-    let mut stream = InputStream::new(session.input());
+// A character stream over a text, until another stream is made.
+fn run_chars<'a>(text: AnyText<'a>, session: &mut Session<'a>) -> Result<Exit<'a>, AllocError> {
+    let mut stream = InputStream::new(text);
     run_lines(&mut stream, session, None)
 }
 
-// An unbuffered stream over the source. Where it is closed, the source waits again.
-fn run_unbuffered(session: &mut Session) -> Result<Exit, AllocError> {
-    let mut stream = UnbufferedTokenStream::new_unbuffered(session.take_source());
+// An unbuffered stream over a source. Where it is closed, the source waits again.
+fn run_unbuffered<'a>(
+    source: AnySource<'a>,
+    session: &mut Session<'a>,
+) -> Result<Exit<'a>, AllocError> {
+    let mut stream = UnbufferedTokenStream::new_unbuffered(source);
     match run_lines(&mut stream, session, None)? {
         Exit::Close => {
             session.put_source(stream.close());
@@ -41,8 +44,8 @@ fn run_session(session: &mut Session, most: usize) -> Result<(), AllocError> {
     let mut exit = session.without_stream()?;
     for _ in 0..most {
         exit = match exit {
-            Exit::Stream(Kind::Chars) => run_chars(session)?,
-            Exit::Stream(Kind::Unbuffered) => run_unbuffered(session)?,
+            Exit::Stream(Start::Chars(text)) => run_chars(text, session)?,
+            Exit::Stream(Start::Unbuffered(source)) => run_unbuffered(source, session)?,
             _ => break,
         };
     }

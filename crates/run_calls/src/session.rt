@@ -3,22 +3,29 @@ ghost use Rattle.std.specs.Prelude.{◌≡◌, ◌<◌, ◌≤◌, length, OnSom
 
 use crate::results::done;
 use crate::source::AnySource;
-use crate::text::{AnyText, bytes_of, check_units};
+use crate::text::{AnyText, Input, check_units};
+use lexer::sheet_lexer::SheetLexer;
 use scripts::answers::{Answer, push_answer, push_echo};
 use scripts::line::{Kind, Line};
 use scripts::words::{front_line, passed_over};
 use std::alloc::{AllocError, Global};
-use std::mem;
 use tokens::list_source::ListSource;
 
 // Why the calls of a stream end: the script is over, a line makes another stream, the stream is closed, or its latest
 // mark is given back.
-#[derive(Clone, Copy)]
-pub enum Exit {
+#[derive(Drop)]
+pub enum Exit<'a> {
     Over,
-    Stream(Kind),
+    Stream(Start<'a>),
     Close,
     Release,
+}
+
+// What a stream is made over.
+#[derive(Drop)]
+pub enum Start<'a> {
+    Chars(AnyText<'a>),
+    Unbuffered(AnySource<'a>),
 }
 
 #[derive(Drop)]
@@ -27,12 +34,9 @@ pub struct Session<'a> {
     // the script from the next line on, and what its lines say
     script: &'a [u8],
     lines: &'a [Line],
-    // the input, and its bytes where it is written in bytes
-    input: AnyText<'a>,
-    bytes: &'a [u8],
-    // the source, and whether it waits for a stream
-    source: AnySource<'a>,
-    waits: bool,
+    input: Input<'a>,
+    // the source that waits for a stream
+    source: Option<AnySource<'a>>,
     pub out: Vec<u8>,
 }
 
@@ -42,10 +46,8 @@ impl<'a> Session<'a> {
             heap,
             script,
             lines,
-            input: AnyText::empty(),
-            bytes: &[],
-            source: AnySource::list(&[], &[]),
-            waits: false,
+            input: Input::empty(),
+            source: None,
             out: Vec::new(heap),
         }
     }
@@ -107,52 +109,43 @@ impl<'a> Session<'a> {
         match line {
             Line::Bad => Some(Answer::BadLine),
             Line::Input(units) => {
-                self.input = AnyText::new(units);
-                self.bytes = bytes_of(units);
+                self.input = Input::new(units);
                 Some(done(check_units(units)))
             }
             Line::NewToken(_) => Some(Answer::Done),
             Line::ListSource(tokens) => {
-                self.source = AnySource::list(tokens.as_slice(), self.bytes);
-                self.waits = true;
+                self.source = Some(AnySource::List(ListSource::new(
+                    tokens.as_slice(),
+                    self.input.bytes,
+                )));
                 Some(done(ListSource::check(tokens.as_slice())))
             }
             Line::SheetSource => {
-                self.source = AnySource::sheet(self.input);
-                self.waits = true;
+                self.source = Some(AnySource::Sheet(SheetLexer::new(self.input.text)));
                 Some(Answer::Done)
             }
             _ => None,
         }
     }
 
-    // Whether there is what a stream of a kind needs.
-    pub(crate) fn can_make(&self, kind: Kind) -> bool {
+    // What a stream of a kind is made over, where it is there. A source that waits is then spent.
+    pub(crate) fn start(&mut self, kind: Kind) -> Option<Start<'a>>
+        ensures same { self.new.lines ≡ self.old.lines }
+    {
         match kind {
-            Kind::Common(_) => false,
-            Kind::Unbuffered => self.waits,
-            Kind::Chars => true,
+            Kind::Common(_) => None,
+            Kind::Unbuffered => self.source.take().map(Start::Unbuffered),
+            Kind::Chars => Some(Start::Chars(self.input.text)),
         }
-    }
-
-    pub(crate) fn input(&self) -> AnyText<'a> {
-        self.input
-    }
-
-    // The source that waits, which is then spent.
-    pub(crate) fn take_source(&mut self) -> AnySource<'a> {
-        self.waits = false;
-        mem::replace(&mut self.source, AnySource::list(&[], &[]))
     }
 
     // A source that comes back from a stream takes the place of one that waits.
     pub(crate) fn put_source(&mut self, source: AnySource<'a>) {
-        self.source = source;
-        self.waits = true;
+        self.source = Some(source);
     }
 
     // The lines up to one that makes a stream, while there is none.
-    pub(crate) fn without_stream(&mut self) -> Result<Exit, AllocError> {
+    pub(crate) fn without_stream(&mut self) -> Result<Exit<'a>, AllocError> {
         'lines: while let Some(line) = self.next() {
             self.echo()?;
             if let Some(answer) = self.make(line) {
@@ -160,10 +153,10 @@ impl<'a> Session<'a> {
                 continue;
             }
             if let Line::NewStream(kind) = line
-                && self.can_make(*kind)
+                && let Some(start) = self.start(*kind)
             {
                 self.answer(Answer::Done)?;
-                return Ok(Exit::Stream(*kind));
+                return Ok(Exit::Stream(start));
             }
             self.answer(Answer::BadLine)?;
         }
