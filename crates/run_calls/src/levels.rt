@@ -1,5 +1,5 @@
 // The calls of a stream, while marks of it are out.
-ghost use Rattle.std.specs.Prelude.{◌≡◌, ◌≤◌, true, false, length};
+ghost use Rattle.std.specs.Prelude.{◌≡◌, ◌<◌, ◌≤◌, true, false, length, IfOk, OnSome};
 ghost use Rattle.streams.specs.Calls.{status_with};
 ghost use Rattle.streams.specs.Marks.{latest, earlier, numbers};
 ghost use Rattle.run_calls.specs.Held.{Held, Stays, held_as};
@@ -109,7 +109,8 @@ fn take_call<'a, S: Called>(
         session.answer(answer)?;
         return Ok(Next::On);
     }
-    match stream.call(call, session.heap, &mut session.out)? {
+    let heap = *session.out.allocator();
+    match stream.call(call, heap, &mut session.out)? {
         Taken::Answered => session.end_line()?,
         Taken::Unknown => session.answer(Answer::BadLine)?,
         Taken::Closes => {
@@ -130,7 +131,6 @@ fn take_line<'a, S: Called>(
     ensures status { Stays held (S.IntStream.status stream.old) (S.IntStream.status stream.new) }
     ensures same { session.new.lines ≡ session.old.lines }
 {
-    session.echo()?;
     if let Some(answer) = session.make(line) {
         session.answer(answer)?;
         return Ok(Next::On);
@@ -159,29 +159,26 @@ pub(crate) fn run_lines<'a, S: Called>(
     stream: &mut S,
     session: &mut Session<'a>,
     held: Option<i32>,
-) -> Result<Exit<'a>, AllocError>
+) -> Result<Option<Exit<'a>>, AllocError>
     requires held { Held (S.IntStream.status stream.old) held }
     ensures status { Stays held (S.IntStream.status stream.old) (S.IntStream.status stream.new) }
+    ensures fewer { IfOk result (λ exit. OnSome exit (length session.new.lines.now < length session.old.lines.now)) }
     ensures no_more { length session.new.lines.now ≤ length session.old.lines.now }
 {
-    'lines: while let Some(line) = session.next() {
+    'lines: while let Some(line) = session.next()? {
         match take_line(stream, session, line, held)? {
             Next::On => {}
-            Next::Leave(exit) => return Ok(exit),
+            Next::Leave(exit) => return Ok(Some(exit)),
             Next::Mark => match stream.mark() {
                 Err(refusal) => session.answer(Answer::Refused(refusal))?,
-                Ok(mark) => {
-                    let exit = run_marked(stream, session, mark)?;
-                    if let Exit::Release = exit {
-                        session.answer(Answer::Done)?;
-                    } else {
-                        return Ok(exit);
-                    }
-                }
+                Ok(mark) => match run_marked(stream, session, mark)? {
+                    Some(Exit::Release) => session.answer(Answer::Done)?,
+                    exit => return Ok(exit),
+                },
             },
         }
     }
-    Ok(Exit::Over)
+    Ok(None)
 }
 
 // The lines while a mark is the latest. It is given back, whatever ends them.
@@ -190,7 +187,7 @@ fn run_marked<'a, S: Called>(
     stream: &mut S,
     session: &mut Session<'a>,
     mark: Mark,
-) -> Result<Exit<'a>, AllocError>
+) -> Result<Option<Exit<'a>>, AllocError>
     requires open { (S.IntStream.status stream.old).opened ≡ true }
     requires latest { latest (S.IntStream.status stream.old).marks mark.number ≡ true }
     ensures status { S.IntStream.status stream.new ≡ status_with (S.IntStream.status stream.old) (earlier (S.IntStream.status stream.old).marks) }

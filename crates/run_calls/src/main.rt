@@ -1,6 +1,8 @@
 // Runs the call script on standard input, and prints what each call answered.
 #![tactic(auto)]
 
+ghost use Rattle.std.specs.Prelude.{◌<◌, ◌≤◌, length, IfOk, OnSome};
+
 mod calls;
 mod levels;
 mod results;
@@ -18,35 +20,47 @@ use std::alloc::AllocError;
 use std::io::{Read, Write};
 use token_streams::token_stream::UnbufferedTokenStream;
 
-// A character stream over a text, until another stream is made.
-fn run_chars<'a>(text: AnyText<'a>, session: &mut Session<'a>) -> Result<Exit<'a>, AllocError> {
+// A character stream over a text, up to a line that makes another stream.
+fn run_chars<'a>(
+    text: AnyText<'a>,
+    session: &mut Session<'a>,
+) -> Result<Option<Start<'a>>, AllocError>
+    ensures fewer { IfOk result (λ start. OnSome start (length session.new.lines.now < length session.old.lines.now)) }
+    ensures no_more { length session.new.lines.now ≤ length session.old.lines.now }
+{
     let mut stream = InputStream::new(text);
-    run_lines(&mut stream, session, None)
+    match run_lines(&mut stream, session, None)? {
+        Some(Exit::Stream(start)) => Ok(Some(start)),
+        _ => Ok(None),
+    }
 }
 
 // An unbuffered stream over a source. Where it is closed, the source waits again.
 fn run_unbuffered<'a>(
     source: AnySource<'a>,
     session: &mut Session<'a>,
-) -> Result<Exit<'a>, AllocError> {
+) -> Result<Option<Start<'a>>, AllocError>
+    ensures fewer { IfOk result (λ start. OnSome start (length session.new.lines.now < length session.old.lines.now)) }
+    ensures no_more { length session.new.lines.now ≤ length session.old.lines.now }
+{
     let mut stream = UnbufferedTokenStream::new_unbuffered(source);
     match run_lines(&mut stream, session, None)? {
-        Exit::Close => {
-            session.put_source(stream.close());
+        Some(Exit::Stream(start)) => Ok(Some(start)),
+        Some(Exit::Close) => {
+            session.source = Some(stream.close());
             session.without_stream()
         }
-        exit => Ok(exit),
+        _ => Ok(None),
     }
 }
 
-// One stream after the other: there are no more than lines.
-fn run_session(session: &mut Session, most: usize) -> Result<(), AllocError> {
-    let mut exit = session.without_stream()?;
-    for _ in 0..most {
-        exit = match exit {
-            Exit::Stream(Start::Chars(text)) => run_chars(text, session)?,
-            Exit::Stream(Start::Unbuffered(source)) => run_unbuffered(source, session)?,
-            _ => break,
+// One stream after the other.
+fn run_session(session: &mut Session) -> Result<(), AllocError> {
+    let mut next = session.without_stream()?;
+    'streams: while let Some(start) = next {
+        next = match start {
+            Start::Chars(text) => run_chars(text, session)?,
+            Start::Unbuffered(source) => run_unbuffered(source, session)?,
         };
     }
     Ok(())
@@ -58,7 +72,7 @@ fn run(rt: &HostRuntime) -> anyhow::Result<()> {
     rt.stdin().read_to_end(&mut script)?;
     let lines = read_script(heap, script.as_slice())?;
     let mut session = Session::new(heap, script.as_slice(), lines.as_slice());
-    run_session(&mut session, lines.len())?;
+    run_session(&mut session)?;
     rt.stdout().write_all(session.out.as_slice())?;
     Ok(())
 }

@@ -1,5 +1,5 @@
 // What a script has made, and what is left of it.
-ghost use Rattle.std.specs.Prelude.{◌≡◌, ◌<◌, ◌≤◌, length, OnSome};
+ghost use Rattle.std.specs.Prelude.{◌≡◌, ◌<◌, ◌≤◌, length, IfOk, OnSome};
 
 use crate::results::done;
 use crate::source::AnySource;
@@ -11,11 +11,9 @@ use scripts::words::{front_line, passed_over};
 use std::alloc::{AllocError, Global};
 use tokens::list_source::ListSource;
 
-// Why the calls of a stream end: the script is over, a line makes another stream, the stream is closed, or its latest
-// mark is given back.
+// What a line ends the calls of a stream by: it makes another stream, closes this one, or gives its latest mark back.
 #[derive(Drop)]
 pub enum Exit<'a> {
-    Over,
     Stream(Start<'a>),
     Close,
     Release,
@@ -30,20 +28,18 @@ pub enum Start<'a> {
 
 #[derive(Drop)]
 pub struct Session<'a> {
-    pub heap: Global,
     // the script from the next line on, and what its lines say
     script: &'a [u8],
     lines: &'a [Line],
     input: Input<'a>,
-    // the source that waits for a stream
-    source: Option<AnySource<'a>>,
+    // the source that waits for a stream; one that comes back from its stream takes the place
+    pub source: Option<AnySource<'a>>,
     pub out: Vec<u8>,
 }
 
 impl<'a> Session<'a> {
     pub(crate) fn new(heap: Global, script: &'a [u8], lines: &'a [Line]) -> Self {
         Session {
-            heap,
             script,
             lines,
             input: Input::empty(),
@@ -66,40 +62,34 @@ impl<'a> Session<'a> {
         &[]
     }
 
-    // What the next line says.
-    pub(crate) fn next(&mut self) -> Option<&'a Line>
-        ensures fewer { OnSome result (length self.new.lines.now < length self.old.lines.now) }
+    // Takes the next line, and prints its words.
+    pub(crate) fn next(&mut self) -> Result<Option<&'a Line>, AllocError>
+        ensures fewer { IfOk result (λ line. OnSome line (length self.new.lines.now < length self.old.lines.now)) }
         ensures no_more { length self.new.lines.now ≤ length self.old.lines.now }
     {
-        let [line, rest @ ..] = self.lines else {
-            return None;
+        let Some((line, rest)) = self.lines.split_first() else {
+            return Ok(None);
         };
         self.lines = rest;
-        Some(line)
-    }
-
-    // Prints the words of the next line.
-    pub(crate) fn echo(&mut self) -> Result<(), AllocError>
-        ensures same { self.new.lines ≡ self.old.lines }
-    {
         let text = self.next_text();
         push_echo(&mut self.out, text)?;
-        self.out.extend_from_slice(b" = ")
+        self.out.extend_from_slice(b" = ")?;
+        Ok(Some(line))
     }
 
     // Prints the answer of a line.
     pub(crate) fn answer(&mut self, answer: Answer) -> Result<(), AllocError>
         ensures same { self.new.lines ≡ self.old.lines }
     {
-        push_answer(&mut self.out, self.heap, answer)?;
+        let heap = *self.out.allocator();
+        push_answer(&mut self.out, heap, answer)?;
         self.end_line()
     }
 
     pub(crate) fn end_line(&mut self) -> Result<(), AllocError>
         ensures same { self.new.lines ≡ self.old.lines }
     {
-        self.out.push(b'\n')?;
-        Ok(())
+        self.out.extend_from_slice(b"\n")
     }
 
     // Makes an input or a source, and answers how that went. Other lines make none.
@@ -139,15 +129,12 @@ impl<'a> Session<'a> {
         }
     }
 
-    // A source that comes back from a stream takes the place of one that waits.
-    pub(crate) fn put_source(&mut self, source: AnySource<'a>) {
-        self.source = Some(source);
-    }
-
     // The lines up to one that makes a stream, while there is none.
-    pub(crate) fn without_stream(&mut self) -> Result<Exit<'a>, AllocError> {
-        'lines: while let Some(line) = self.next() {
-            self.echo()?;
+    pub(crate) fn without_stream(&mut self) -> Result<Option<Start<'a>>, AllocError>
+        ensures fewer { IfOk result (λ start. OnSome start (length self.new.lines.now < length self.old.lines.now)) }
+        ensures no_more { length self.new.lines.now ≤ length self.old.lines.now }
+    {
+        'lines: while let Some(line) = self.next()? {
             if let Some(answer) = self.make(line) {
                 self.answer(answer)?;
                 continue;
@@ -156,10 +143,10 @@ impl<'a> Session<'a> {
                 && let Some(start) = self.start(*kind)
             {
                 self.answer(Answer::Done)?;
-                return Ok(Exit::Stream(start));
+                return Ok(Some(start));
             }
             self.answer(Answer::BadLine)?;
         }
-        Ok(Exit::Over)
+        Ok(None)
     }
 }
