@@ -142,11 +142,9 @@ fn take_line<'a, S: Called>(
             Ok(Next::On)
         }
         Line::NewStream(kind) => {
-            let Some(start) = session.start(*kind) else {
-                session.answer(Answer::BadLine)?;
+            let Some(start) = session.start(*kind)? else {
                 return Ok(Next::On);
             };
-            session.answer(Answer::Done)?;
             Ok(Next::Leave(Exit::Stream(start)))
         }
         _ => Ok(Next::On),

@@ -118,15 +118,22 @@ impl<'a> Session<'a> {
         }
     }
 
-    // What a stream of a kind is made over, where it is there. A source that waits is then spent.
-    pub(crate) fn start(&mut self, kind: Kind) -> Option<Start<'a>>
+    // What a stream of a kind is made over, and answers whether it is there. A source that waits is then spent.
+    pub(crate) fn start(&mut self, kind: Kind) -> Result<Option<Start<'a>>, AllocError>
         ensures same { self.new.lines ≡ self.old.lines }
     {
-        match kind {
+        let start = match kind {
             Kind::Common(_) => None,
             Kind::Unbuffered => self.source.take().map(Start::Unbuffered),
             Kind::Chars => Some(Start::Chars(self.input.text)),
-        }
+        };
+        let answer = if start.is_some() {
+            Answer::Done
+        } else {
+            Answer::BadLine
+        };
+        self.answer(answer)?;
+        Ok(start)
     }
 
     // The lines up to one that makes a stream, while there is none.
@@ -139,13 +146,14 @@ impl<'a> Session<'a> {
                 self.answer(answer)?;
                 continue;
             }
-            if let Line::NewStream(kind) = line
-                && let Some(start) = self.start(*kind)
-            {
-                self.answer(Answer::Done)?;
-                return Ok(Some(start));
+            match line {
+                Line::NewStream(kind) => {
+                    if let Some(start) = self.start(*kind)? {
+                        return Ok(Some(start));
+                    }
+                }
+                _ => self.answer(Answer::BadLine)?,
             }
-            self.answer(Answer::BadLine)?;
         }
         Ok(None)
     }
