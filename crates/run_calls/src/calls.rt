@@ -1,14 +1,13 @@
 // The calls of a stream.
 ghost use Rattle.std.specs.Prelude.{◌≡◌, true};
 
-use crate::results::{done, got, looked};
 use crate::source::AnySource;
 use crate::text::AnyText;
 use characters::char_stream::InputData;
 use input_streams::input_stream::InputStream;
-use scripts::answers::{Answer, push_answer, push_written};
+use scripts::answers::{Value, push_answer, push_written};
 use scripts::line::Call;
-use std::alloc::{AllocError, Global};
+use std::alloc::AllocError;
 use streams::int_stream::IntStream;
 use token_streams::token_stream::UnbufferedTokenStream;
 use tokens::token::Token;
@@ -24,15 +23,15 @@ pub enum Taken {
 // A stream with the calls that not every stream has.
 pub trait Called: IntStream {
     // Makes a call, and prints what it answered.
-    fn call(&mut self, call: Call, heap: Global, out: &mut Vec<u8>) -> Result<Taken, AllocError>
+    fn call(&mut self, call: Call, out: &mut Vec<u8>) -> Result<Taken, AllocError>
         ensures status { (Self.IntStream.status self.old).opened ≡ true → Self.IntStream.status self.new ≡ Self.IntStream.status self.old };
 }
 
 impl<'a> Called for InputStream<AnyText<'a>> {
-    fn call(&mut self, call: Call, heap: Global, out: &mut Vec<u8>) -> Result<Taken, AllocError> {
+    fn call(&mut self, call: Call, out: &mut Vec<u8>) -> Result<Taken, AllocError> {
         match call {
             Call::Interval(start, stop) => {
-                push_interval(self, start, stop, heap, out)?;
+                push_interval(self, start, stop, out)?;
                 Ok(Taken::Answered)
             }
             _ => Ok(Taken::Unknown),
@@ -45,33 +44,35 @@ fn push_interval(
     stream: &InputStream<AnyText>,
     start: i32,
     stop: i32,
-    heap: Global,
     out: &mut Vec<u8>,
 ) -> Result<(), AllocError> {
     if let Err(refusal) = stream.check_text(start, stop) {
-        return push_answer(out, heap, Answer::Refused(refusal));
+        return push_answer(out, Err(refusal));
     }
     let part = stream.text(start, stop);
-    let mut shown = vec![in heap; 0; part.display_len()]?;
+    let mut shown = vec![in *out.allocator(); 0; part.display_len()]?;
     let count = part.to_display(shown.as_mut_slice());
-    push_written(out, heap, count, shown.as_slice())
+    push_written(out, count, shown.as_slice())
 }
 
 impl<'a> Called for UnbufferedTokenStream<AnySource<'a>> {
-    fn call(&mut self, call: Call, heap: Global, out: &mut Vec<u8>) -> Result<Taken, AllocError> {
+    fn call(&mut self, call: Call, out: &mut Vec<u8>) -> Result<Taken, AllocError> {
         match call {
-            Call::Open(capacity) => push_answer(out, heap, done(self.open(capacity)))?,
-            Call::Lt(k) => push_answer(out, heap, looked(self.lt(k)))?,
-            Call::Get(index) => push_answer(out, heap, got(self.get(index)))?,
+            Call::Open(capacity) => push_answer(out, self.open(capacity).map(|()| Value::Done))?,
+            Call::Lt(k) => push_answer(out, self.lt(k).map(Value::Token))?,
+            Call::Get(index) => push_answer(
+                out,
+                self.get(index).map(|token| Value::Token(Some(token))),
+            )?,
             Call::Text(start, stop, room) => {
-                let mut buffer = vec![in heap; 0xAA; room]?;
+                let mut buffer = vec![in *out.allocator(); 0xAA; room]?;
                 let count = self.get_text_from_interval(start, stop, buffer.as_mut_slice());
-                push_written(out, heap, count, buffer.as_slice())?;
+                push_written(out, count, buffer.as_slice())?;
             }
             Call::TextOf(first, last, room) => {
-                let mut buffer = vec![in heap; 0xAA; room]?;
+                let mut buffer = vec![in *out.allocator(); 0xAA; room]?;
                 let count = self.get_text_from_tokens(&at(first), &at(last), buffer.as_mut_slice());
-                push_written(out, heap, count, buffer.as_slice())?;
+                push_written(out, count, buffer.as_slice())?;
             }
             Call::Close => return Ok(Taken::Closes),
             _ => return Ok(Taken::Unknown),

@@ -5,11 +5,10 @@ ghost use Rattle.streams.specs.Marks.{latest, earlier, numbers};
 ghost use Rattle.run_calls.specs.Held.{Held, Stays, held_as};
 
 use crate::calls::{Called, Taken};
-use crate::results::{agreed, counted, done};
 use crate::session::{Exit, Session};
 use count_ahead::count_ahead;
 use refusals::Refusal;
-use scripts::answers::Answer;
+use scripts::answers::{Answer, Value};
 use scripts::line::{Call, Line};
 use std::alloc::AllocError;
 use streams::int_stream::IntStream;
@@ -66,11 +65,11 @@ fn ask<S: IntStream>(stream: &mut S, call: Call) -> Option<Answer>
     ensures status { S.IntStream.status stream.new ≡ S.IntStream.status stream.old }
 {
     match call {
-        Call::La(k) => Some(counted(stream.la(k))),
-        Call::Consume => Some(done(stream.consume())),
-        Call::Seek(index) => Some(done(stream.seek(index))),
-        Call::Index => Some(counted(stream.index())),
-        Call::Size => Some(counted(stream.size())),
+        Call::La(k) => Some(stream.la(k).map(Value::Number)),
+        Call::Consume => Some(stream.consume().map(|()| Value::Done)),
+        Call::Seek(index) => Some(stream.seek(index).map(|()| Value::Done)),
+        Call::Index => Some(stream.index().map(Value::Number)),
+        Call::Size => Some(stream.size().map(Value::Number)),
         _ => None,
     }
 }
@@ -102,19 +101,18 @@ fn take_call<'a, S: Called>(
         if held_as(held, number) {
             return Ok(Next::Leave(Exit::Release));
         }
-        session.answer(done(release_other(stream, number)))?;
+        session.answer(release_other(stream, number).map(|()| Value::Done))?;
         return Ok(Next::On);
     }
     if let Some(answer) = ask(stream, call) {
         session.answer(answer)?;
         return Ok(Next::On);
     }
-    let heap = *session.out.allocator();
-    match stream.call(call, heap, &mut session.out)? {
+    match stream.call(call, &mut session.out)? {
         Taken::Answered => session.end_line()?,
-        Taken::Unknown => session.answer(Answer::BadLine)?,
+        Taken::Unknown => session.bad_line()?,
         Taken::Closes => {
-            session.answer(Answer::Done)?;
+            session.answer(Ok(Value::Done))?;
             return Ok(Next::Leave(Exit::Close));
         }
     }
@@ -138,7 +136,7 @@ fn take_line<'a, S: Called>(
     match line {
         Line::Ask(call) => take_call(stream, session, *call, held),
         Line::CountAhead(wanted) => {
-            session.answer(agreed(count_ahead(stream, wanted.as_slice())))?;
+            session.answer(count_ahead(stream, wanted.as_slice()).map(Value::Count))?;
             Ok(Next::On)
         }
         Line::NewStream(kind) => {
@@ -168,9 +166,9 @@ pub(crate) fn run_lines<'a, S: Called>(
             Next::On => {}
             Next::Leave(exit) => return Ok(Some(exit)),
             Next::Mark => match stream.mark() {
-                Err(refusal) => session.answer(Answer::Refused(refusal))?,
+                Err(refusal) => session.answer(Err(refusal))?,
                 Ok(mark) => match run_marked(stream, session, mark)? {
-                    Some(Exit::Release) => session.answer(Answer::Done)?,
+                    Some(Exit::Release) => session.answer(Ok(Value::Done))?,
                     exit => return Ok(exit),
                 },
             },
@@ -192,7 +190,7 @@ fn run_marked<'a, S: Called>(
     ensures no_more { length session.new.lines.now ≤ length session.old.lines.now }
 {
     let number = mark.number();
-    let exit = match session.answer(Answer::Number(number)) {
+    let exit = match session.answer(Ok(Value::Number(number))) {
         Ok(()) => run_lines(stream, session, Some(number)),
         Err(error) => Err(error),
     };

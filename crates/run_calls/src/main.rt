@@ -5,7 +5,6 @@ ghost use Rattle.std.specs.Prelude.{◌<◌, ◌≤◌, length, IfOk, OnSome};
 
 mod calls;
 mod levels;
-mod results;
 mod session;
 mod source;
 mod text;

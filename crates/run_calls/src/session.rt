@@ -1,13 +1,12 @@
 // What a script has made, and what is left of it.
 ghost use Rattle.std.specs.Prelude.{◌≡◌, ◌<◌, ◌≤◌, length, IfOk, OnSome};
 
-use crate::results::done;
 use crate::source::AnySource;
 use crate::text::{AnyText, Input, check_units};
 use lexer::sheet_lexer::SheetLexer;
-use scripts::answers::{Answer, push_answer, push_echo};
+use scripts::answers::{Answer, Value, push_answer, push_bad_line, push_echo};
 use scripts::line::{Kind, Line};
-use scripts::words::{front_line, passed_over};
+use scripts::words::{Lines, passed_over};
 use std::alloc::{AllocError, Global};
 use tokens::list_source::ListSource;
 
@@ -29,8 +28,8 @@ pub enum Start<'a> {
 #[derive(Drop)]
 pub struct Session<'a> {
     // the script from the next line on, and what its lines say
-    script: &'a [u8],
-    lines: &'a [Line],
+    script: Lines<'a>,
+    lines: &'a [Option<Line>],
     input: Input<'a>,
     // the source that waits for a stream; one that comes back from its stream takes the place
     pub source: Option<AnySource<'a>>,
@@ -38,9 +37,9 @@ pub struct Session<'a> {
 }
 
 impl<'a> Session<'a> {
-    pub(crate) fn new(heap: Global, script: &'a [u8], lines: &'a [Line]) -> Self {
+    pub(crate) fn new(heap: Global, script: &'a [u8], lines: &'a [Option<Line>]) -> Self {
         Session {
-            script,
+            script: Lines::of(script),
             lines,
             input: Input::empty(),
             source: None,
@@ -48,41 +47,47 @@ impl<'a> Session<'a> {
         }
     }
 
-    // The next line of the script that is not passed over.
-    fn next_text(&mut self) -> &'a [u8]
+    // Prints the words of the next line of the script that is not passed over.
+    fn echo(&mut self) -> Result<(), AllocError>
         ensures same { self.new.lines ≡ self.old.lines }
     {
-        'over: while !self.script.is_empty() {
-            let (text, rest) = front_line(self.script);
-            self.script = rest;
-            if !passed_over(text) {
-                return text;
-            }
-        }
-        &[]
+        let text = self
+            .script
+            .find(|text| !passed_over(text))
+            .unwrap_or_default();
+        push_echo(&mut self.out, text)?;
+        self.out.extend_from_slice(b" = ")
     }
 
-    // Takes the next line, and prints its words.
+    // Takes the next line that says something, and prints its words. Those before it are answered.
     pub(crate) fn next(&mut self) -> Result<Option<&'a Line>, AllocError>
         ensures fewer { IfOk result (λ line. OnSome line (length self.new.lines.now < length self.old.lines.now)) }
         ensures no_more { length self.new.lines.now ≤ length self.old.lines.now }
     {
-        let Some((line, rest)) = self.lines.split_first() else {
-            return Ok(None);
-        };
-        self.lines = rest;
-        let text = self.next_text();
-        push_echo(&mut self.out, text)?;
-        self.out.extend_from_slice(b" = ")?;
-        Ok(Some(line))
+        'lines: while let Some((line, rest)) = self.lines.split_first() {
+            self.lines = rest;
+            self.echo()?;
+            if let Some(line) = line {
+                return Ok(Some(line));
+            }
+            self.bad_line()?;
+        }
+        Ok(None)
     }
 
     // Prints the answer of a line.
     pub(crate) fn answer(&mut self, answer: Answer) -> Result<(), AllocError>
         ensures same { self.new.lines ≡ self.old.lines }
     {
-        let heap = *self.out.allocator();
-        push_answer(&mut self.out, heap, answer)?;
+        push_answer(&mut self.out, answer)?;
+        self.end_line()
+    }
+
+    // Says that a line is none.
+    pub(crate) fn bad_line(&mut self) -> Result<(), AllocError>
+        ensures same { self.new.lines ≡ self.old.lines }
+    {
+        push_bad_line(&mut self.out)?;
         self.end_line()
     }
 
@@ -97,22 +102,21 @@ impl<'a> Session<'a> {
         ensures same { self.new.lines ≡ self.old.lines }
     {
         match line {
-            Line::Bad => Some(Answer::BadLine),
             Line::Input(units) => {
                 self.input = Input::new(units);
-                Some(done(check_units(units)))
+                Some(check_units(units).map(|()| Value::Done))
             }
-            Line::NewToken(_) => Some(Answer::Done),
+            Line::NewToken(_) => Some(Ok(Value::Done)),
             Line::ListSource(tokens) => {
                 self.source = Some(AnySource::List(ListSource::new(
                     tokens.as_slice(),
                     self.input.bytes,
                 )));
-                Some(done(ListSource::check(tokens.as_slice())))
+                Some(ListSource::check(tokens.as_slice()).map(|()| Value::Done))
             }
             Line::SheetSource => {
                 self.source = Some(AnySource::Sheet(SheetLexer::new(self.input.text)));
-                Some(Answer::Done)
+                Some(Ok(Value::Done))
             }
             _ => None,
         }
@@ -127,12 +131,11 @@ impl<'a> Session<'a> {
             Kind::Unbuffered => self.source.take().map(Start::Unbuffered),
             Kind::Chars => Some(Start::Chars(self.input.text)),
         };
-        let answer = if start.is_some() {
-            Answer::Done
+        if start.is_some() {
+            self.answer(Ok(Value::Done))?;
         } else {
-            Answer::BadLine
-        };
-        self.answer(answer)?;
+            self.bad_line()?;
+        }
         Ok(start)
     }
 
@@ -152,7 +155,7 @@ impl<'a> Session<'a> {
                         return Ok(Some(start));
                     }
                 }
-                _ => self.answer(Answer::BadLine)?,
+                _ => self.bad_line()?,
             }
         }
         Ok(None)

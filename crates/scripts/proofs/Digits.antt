@@ -1,80 +1,130 @@
--- A number read digit by digit. Assumes nothing.
-use Rattle.std.proofs.Common.{◌≡◌, ℕ, suc, ◌+◌, ◌-◌, ◌*◌, ◌<◌, ◌≤◌, Bool, true, false, ◌&&◌, List, [], ◌∷◌, length, get_or, take, drop, pos, neg_ℤ, Some, None, Option, sym, refl, ap, ◌∙◌, mul-le-mul_left, mul-one, add-one, arith, drop_of_length-le, drop-cons}
-use Rattle.std.proofs.lemmas.Bool.{le-leb, lt-leb, le-ltb, lt-ltb, eq-eqb}
-use Rattle.std.proofs.lemmas.List.{take_rest}
+-- Numbers and units as the library reads them. Assumes nothing.
+use Rattle.std.proofs.Common.{◌≡◌, ◌≢◌, ℕ, zero, suc, ◌+◌, ◌^◌, ◌<◌, ◌≤◌, Bool, true, false, eqb, ltb, nat_le, List, [], ◌∷◌, length, get_or, ℤ, pos, neg_ℤ, Some, None, Option, Result, Ok, Err, w32, refl, ap, ◌∙◌, arith, lit<}
+use Rattle.std.proofs.lemmas.Bool.{le-leb, le-ltb, eqb-true, eqb-false, leb-true, ltb-true, ltb-false}
+use Rattle.std.proofs.lemmas.Bool.Decides.{Decides-ltb, Decides-and}
+use Rattle.std.proofs.lemmas.Str.{IsUtf8-from_ascii}
+use Rattle.std.proofs.lemmas.Str.Parse.{numerals_by_value, tells_digits, parse_signed_minus, parse_signed_plain, without_leading_plus_none}
+use Rattle.std.specs.Bool.{Decides}
 use Rattle.std.specs.Option.{option_map}
-use Rattle.std.specs.Str.Parse.{digits_value, digits_value_after}
+use Rattle.std.specs.Result.{OkIff, result_ok}
+use Rattle.std.specs.Str.{IsAscii, IsUtf8}
+use Rattle.std.specs.Str.Parse.{AllDigits, IsNumeral, ParsesUnsigned, ParsesSigned, digits_value}
 use Rattle.std.specs.Char.{digit_value}
-use Rattle.scripts.specs.Numerals.{digit, digits, numeral, natural, number, pair}
+use Rattle.scripts.specs.Numerals.{digit, digits, numeral, natural, number, half, whole}
 
--- after i digits of a word: the number that they write, and that the whole is read on from there
-pub record SoFar (base : ℕ) (word : List ℕ) (i n : ℕ) : Type 0 where
-  pub reads : digits_value base word ≡ digits_value_after base n (drop i word)
-  pub passes : digits base word ≡ digits base (drop i word)
+decides_digits : (base : ℕ) (w : List ℕ) → Decides (digits base w) (AllDigits base w)
+decides_digits base [] = (λ _. tt, λ _. refl)
+decides_digits base (c ∷ cs) = Decides-and (digit base c) (digits base cs) (Decides-ltb (digit_value c) base) (decides_digits base cs)
 
--- a number only grows with more digits
-grows : (base n : ℕ) (ds : List ℕ) → 1 ≤ base → n ≤ digits_value_after base n ds
-grows base n [] h = omega arith
-grows base n (d ∷ ds) h =
-    let m : n * 1 ≤ n * base = mul-le-mul_left n h in
-    omega (arith, m, mul-one n, grows base (n * base + digit_value d) ds h)
+numeral_yes : (base : ℕ) (w : List ℕ) → IsNumeral base w → numeral base w ≡ true
+numeral_yes base [] h = absurd (omega (arith, h.0))
+numeral_yes base (c ∷ cs) h = (decides_digits base (c ∷ cs)).1 h.1
 
-numeral_fails : (base : ℕ) (word : List ℕ) → digits base word ≡ false → numeral base word ≡ false
-numeral_fails base [] e = refl
-numeral_fails base (c ∷ cs) e = e
+numeral_is : (base : ℕ) (w : List ℕ) → numeral base w ≡ true → IsNumeral base w
+numeral_is base [] e = cc
+numeral_is base (c ∷ cs) e = (omega arith, (decides_digits base (c ∷ cs)).0 e)
 
-numeral_passes : (base : ℕ) (word : List ℕ) → 0 < length word → digits base word ≡ true → numeral base word ≡ true
-numeral_passes base [] h e = absurd (omega arith)
-numeral_passes base (c ∷ cs) h e = e
+-- what the library reads of a word, by what it asks of it
+read_is : {T E : Type 0} {P : Type 0} (f : ℕ → T) (base most : ℕ) (w : List ℕ) (r : Result T E) → OkIff r P (f (digits_value base w)) → (P → IsNumeral base w × (digits_value base w ≤ most)) → (IsNumeral base w → digits_value base w ≤ most → P) → result_ok r ≡ option_map f (natural base most w)
+read_is f base most w (Ok x) h to from =
+    let p = to h.0 in
+    rw (numeral_yes base w p.0, le-leb (digits_value base w) most p.1) (ap Some h.1)
+read_is {T} {E} {P} f base most w (Err e) h to from = go (numeral base w) refl (nat_le (digits_value base w) most) refl
+  where
+    go : (b : Bool) → numeral base w ≡ b → (d : Bool) → nat_le (digits_value base w) most ≡ d → None ≡ option_map f (natural base most w)
+    go true e true d = absurd (h (from (numeral_is base w e) (leb-true _ _ d)))
+    go true e false d = rw (e, d) refl
+    go false e b d = rw e refl
 
-and_false : (x : Bool) → (x && false) ≡ false
-and_false true = refl
-and_false false = refl
+same : {A : Type 0} (o : Option A) → option_map (λ x. x) o ≡ o
+same None = refl
+same (Some x) = refl
 
-module _ (base : ℕ) (word : List ℕ) (i n : ℕ) (so_far : SoFar base word i n) where
-  -- one digit x more
-  pub digit_more : (x m : ℕ) → x ≡ get_or word i 0 → i < length word → digit_value x < base → m ≡ n * base + digit_value x → SoFar base word (i + 1) m
-  digit_more x m is h small e =
-      let front = drop-cons word i 0 h ∙ ap (λ y. y ∷ drop (suc i) word) (sym is) in
-      let reads = so_far.reads ∙ ap (digits_value_after base n) front ∙ ap (λ k. digits_value_after base k (drop (suc i) word)) (sym e) in
-      let passes = so_far.passes ∙ ap (digits base) front ∙ ap (λ b. b && digits base (drop (suc i) word)) (lt-ltb _ _ small) in
-      rw add-one (record { reads = reads; passes = passes })
+-- a word with no plus at an unsigned type
+module _ {E : Type 0} (w : List ℕ) (r : Result ℕ E) (plain : get_or w 0 0 ≢ 43) where
+  read_unsigned : (k most : ℕ) → most + 1 ≡ 2 ^ k → ParsesUnsigned k 16 w r → result_ok r ≡ natural 16 most w
+  read_unsigned k most e h =
+      let own = rw (without_leading_plus_none w plain) at h in
+      read_is (λ n. n) 16 most w r own (λ p. (p.0, omega (arith, p.1, e))) (λ p q. (p, omega (arith, q, e))) ∙ same (natural 16 most w)
 
-  -- a byte x that is no digit
-  pub digit_missing : (most x : ℕ) → x ≡ get_or word i 0 → i < length word → (digit_value x < base → ⊥) → None ≡ natural base most word
-  digit_missing most x is h none =
-      let front = drop-cons word i 0 h ∙ ap (λ y. y ∷ drop (suc i) word) (sym is) in
-      let large : base ≤ digit_value x = omega (arith, none) in
-      let passes = so_far.passes ∙ ap (digits base) front ∙ ap (λ b. b && digits base (drop (suc i) word)) (le-ltb _ _ large) in
-      rw (numeral_fails base word passes) refl
+  pub read_half : length w ≤ 4 → ParsesUnsigned 16 16 w r → result_ok r ≡ half w
+  read_half short h = rw (le-ltb 4 (length w) short) (read_unsigned 16 65535 refl h)
 
-  pub too_large : (most : ℕ) → 1 ≤ base → most < n → None ≡ natural base most word
-  too_large most one h =
-      let large : most < digits_value base word = omega (arith, so_far.reads, grows base n (drop i word) one) in
-      rw (lt-leb _ _ large) (rw (and_false (numeral base word)) refl)
+  pub read_whole : length w ≤ 8 → ParsesUnsigned 32 16 w r → result_ok r ≡ whole w
+  read_whole short h = rw (le-ltb 8 (length w) short) (read_unsigned 32 4294967295 refl h)
 
-  pub all_digits : (most : ℕ) → 0 < length word → length word ≤ i → n ≤ most → Some n ≡ natural base most word
-  all_digits most some over h =
-      let none = drop_of_length-le word over in
-      let reads = so_far.reads ∙ ap (digits_value_after base n) none in
-      let passes = so_far.passes ∙ ap (digits base) none in
-      rw (numeral_passes base word some passes, reads) (rw (le-leb n most h) refl)
+-- and at a signed one
+pub read_number : {E : Type 0} (w : List ℕ) (r : Result ℤ E) → get_or w 0 0 ≢ 43 → ParsesSigned w32 10 w r → result_ok r ≡ number w
+read_number [] (Ok x) plain h = absurd (omega (arith, h.0.0.0))
+read_number [] (Err e) plain h = refl
+read_number (c ∷ cs) r plain h = go (eqb c 45) refl
+  where
+    go : (b : Bool) → eqb c 45 ≡ b → result_ok r ≡ number (c ∷ cs)
+    go true e =
+        let minus : c ≡ 45 = eqb-true c 45 e in
+        let h = parse_signed_minus (numerals_by_value (AllDigits 10) tells_digits) w32 (c ∷ cs) r h minus in
+        rw e (read_is (λ n. neg_ℤ (pos n)) 10 2147483648 cs r h (λ p. ((p.1, p.0), p.2)) (λ p q. (p.1, p.0, q)))
+    go false e =
+        let digit : c ≢ 45 = eqb-false c 45 e in
+        let h = parse_signed_plain (numerals_by_value (AllDigits 10) tells_digits) w32 (c ∷ cs) r h plain digit in
+        rw e (read_is pos 10 2147483647 (c ∷ cs) r h (λ p. ((p.1, p.0), omega (arith, p.2))) (λ p q. (p.1, p.0, omega (arith, q))))
 
--- the product and the sum as they were computed
-pub sum_is : (m n b b' d d' e : ℕ) → m ≡ n * b' + d' → b' ≡ b → d' ≡ d → d ≡ e → m ≡ n * b + e
-sum_is m n b b' d d' e p q r s = cc
+-- what is no text, or begins with a plus, is no numeral
+no_digit : (c : ℕ) → 128 ≤ c → digit_value c ≡ 36
+no_digit c h =
+    let a : 48 ≤ c = omega arith in
+    let b : 58 ≤ c = omega arith in
+    let d : 65 ≤ c = omega arith in
+    let e : 91 ≤ c = omega arith in
+    let f : 97 ≤ c = omega arith in
+    let g : 123 ≤ c = omega arith in
+    rw (le-ltb c 48 a, le-ltb c 58 b, le-ltb c 65 d, le-ltb c 91 e, le-ltb c 97 f, le-ltb c 123 g) refl
 
-pub pair_is : (x y high low a b : ℕ) → x ≡ high → y ≡ low → (digit_value x < 16) × (a ≡ digit_value x) → (digit_value y < 16) × (b ≡ digit_value y) → Some (16 * a + b) ≡ pair high low
-pair_is x y high low a b p q h k =
-    let first : digit 16 high ≡ true = ap (digit 16) (sym p) ∙ lt-ltb _ _ h.0 in
-    let second : digit 16 low ≡ true = ap (digit 16) (sym q) ∙ lt-ltb _ _ k.0 in
-    let same : 16 * a + b ≡ 16 * digit_value high + digit_value low = cc (h.1, k.1) in
-    rw (first, second) (ap Some same)
+digit_small : (c : ℕ) → digit_value c < 16 → c < 128
+digit_small c h = go (ltb c 128) refl
+  where
+    go : (b : Bool) → ltb c 128 ≡ b → c < 128
+    go true e = ltb-true c 128 e
+    go false e = let k = no_digit c (ltb-false c 128 e) in absurd (omega (arith, k))
 
--- a minus before digits
-pub minus_number : (word : List ℕ) (r : Option ℕ) → 0 < length word → get_or word 0 0 ≡ 45 → r ≡ natural 10 2147483648 (take (length word - 1) (drop 1 word)) → option_map (λ n. neg_ℤ (pos n)) r ≡ number word
-minus_number [] r some e given = absurd (omega arith)
-minus_number (c ∷ cs) r some e given =
-    let whole : take (length (c ∷ cs) - 1) cs ≡ cs = take_rest (c ∷ cs) 1 in
-    let told : r ≡ natural 10 2147483648 cs = given ∙ ap (natural 10 2147483648) whole in
-    rw (eq-eqb _ _ e) (ap (option_map (λ n. neg_ℤ (pos n))) told)
+ascii_digits : (base : ℕ) → base ≤ 16 → (w : List ℕ) → AllDigits base w → IsAscii w
+ascii_digits base small [] h i = lit< tt
+ascii_digits base small (c ∷ cs) h zero = let d : digit_value c < 16 = omega (arith, h.0) in digit_small c d
+ascii_digits base small (c ∷ cs) h (suc i) = ascii_digits base small cs h.1 i
+
+module _ (w : List ℕ) (unread : IsUtf8 w → get_or w 0 0 ≡ 43) where
+  no_numeral : (base : ℕ) → base ≤ 16 → IsNumeral base w → ⊥
+  no_numeral base small h = plus w (unread (IsUtf8-from_ascii w (ascii_digits base small w h.1))) h
+    where
+      plus : (v : List ℕ) → get_or v 0 0 ≡ 43 → IsNumeral base v → ⊥
+      plus [] e h = omega (arith, h.0)
+      plus (c ∷ cs) e h = let k : digit_value c ≡ 36 = ap digit_value e in omega (arith, h.1.0, k)
+
+  not_numeral : (base : ℕ) → base ≤ 16 → numeral base w ≡ false
+  not_numeral base small = go (numeral base w) refl
+    where
+      go : (b : Bool) → numeral base w ≡ b → numeral base w ≡ false
+      go true e = absurd (no_numeral base small (numeral_is base w e))
+      go false e = e
+
+  pub no_half : length w ≤ 4 → None ≡ half w
+  no_half short = rw (le-ltb 4 (length w) short, not_numeral 16 (omega arith)) refl
+
+  pub no_whole : length w ≤ 8 → None ≡ whole w
+  no_whole short = rw (le-ltb 8 (length w) short, not_numeral 16 (omega arith)) refl
+
+pub no_number : (w : List ℕ) → (IsUtf8 w → get_or w 0 0 ≡ 43) → None ≡ number w
+no_number [] unread = refl
+no_number (c ∷ cs) unread = go (eqb c 45) refl
+  where
+    ascii : AllDigits 10 cs → c ≡ 45 → IsAscii (c ∷ cs)
+    ascii h e zero = let d : c < 128 = omega arith in d
+    ascii h e (suc i) = ascii_digits 10 (omega arith) cs h i
+
+    rest : c ≡ 45 → (b : Bool) → numeral 10 cs ≡ b → numeral 10 cs ≡ false
+    rest e true k = absurd (let p : c ≡ 43 = unread (IsUtf8-from_ascii (c ∷ cs) (ascii (numeral_is 10 cs k).1 e)) in omega arith)
+    rest e false k = k
+
+    go : (b : Bool) → eqb c 45 ≡ b → None ≡ number (c ∷ cs)
+    go true e = rw (e, rest (eqb-true c 45 e) (numeral 10 cs) refl) refl
+    go false e = rw (e, not_numeral (c ∷ cs) unread 10 (omega arith)) refl

@@ -1,8 +1,7 @@
 -- The first line of a script, and what the lines say. Assumes nothing.
-use Rattle.std.proofs.Common.{◌≡◌, ℕ, suc, ◌+◌, ◌<◌, Bool, true, false, not, eqb, List, [], ◌∷◌, ◌++◌, map, length, filter, sym, refl, ap, ◌∙◌, append_assoc, append-nil, one-add, arith}
-use Rattle.scripts.specs.Words.{first_line, later_lines, lengthened, words, passed_over}
+use Rattle.std.proofs.Common.{◌≡◌, ℕ, suc, ◌+◌, ◌<◌, Bool, true, false, not, eqb, List, [], ◌∷◌, map, length, filter, refl, ap, ◌∙◌, one-add, arith}
+use Rattle.scripts.specs.Words.{first_line, later_lines, lengthened, lines, words, passed_over}
 use Rattle.scripts.specs.Sayings.{Saying, said}
-use Rattle.scripts.specs.Scripts.{lines, sayings}
 
 front : (c : ℕ) (cs : List ℕ) → lines (c ∷ cs) ≡ first_line (c ∷ cs) ∷ lines (later_lines (c ∷ cs))
 front c [] = go (eqb c 10) refl
@@ -23,24 +22,9 @@ lines_front : (cs : List ℕ) → 0 < length cs → lines cs ≡ first_line cs �
 lines_front [] some = absurd (omega arith)
 lines_front (c ∷ cs) some = front c cs
 
-module _ (done all : List Saying) (rest text more : List ℕ) (so_far : done ++ sayings rest ≡ all) where
-  pub lines_over : length rest ≡ 0 → done ≡ all
-  lines_over none = sym (append-nil done) ∙ ap (λ l. done ++ l) (sym (nothing rest none)) ∙ so_far
-    where
-      nothing : (cs : List ℕ) → length cs ≡ 0 → sayings cs ≡ []
-      nothing [] z = refl
-      nothing (c ∷ cs) z = absurd (omega arith)
+pub lines_parted : (rest text more : List ℕ) → 0 < length rest → text ≡ first_line rest → more ≡ later_lines rest → lines rest ≡ text ∷ lines more
+lines_parted rest text more some p q = lines_front rest some ∙ (let h : first_line rest ∷ lines (later_lines rest) ≡ text ∷ lines more = cc in h)
 
-  module _ (some : 0 < length rest) (text_is : text ≡ first_line rest) (more_is : more ≡ later_lines rest) where
-    parted : lines rest ≡ text ∷ lines more
-    parted = lines_front rest some ∙ (let h : first_line rest ∷ lines (later_lines rest) ≡ text ∷ lines more = cc in h)
-
-    pub line_passed : passed_over text ≡ true → done ++ sayings more ≡ all
-    line_passed e =
-        let same : sayings rest ≡ sayings more = ap (λ l. map (λ l. said (words l)) (filter (λ l. not (passed_over l)) l)) parted ∙ rw e refl in
-        ap (λ l. done ++ l) (sym same) ∙ so_far
-
-    pub line_told : (x : Saying) → passed_over text ≡ false → x ≡ said (words text) → (done ++ x ∷ []) ++ sayings more ≡ all
-    line_told x e told =
-        let first : sayings rest ≡ said (words text) ∷ sayings more = ap (λ l. map (λ l. said (words l)) (filter (λ l. not (passed_over l)) l)) parted ∙ rw e refl in
-        append_assoc done (x ∷ []) (sayings more) ∙ ap (λ s. done ++ s ∷ sayings more) told ∙ ap (λ l. done ++ l) (sym first) ∙ so_far
+-- what lines say, without those that are passed over
+abbrev pub told : List (List ℕ) → List Saying
+told ls = map (λ l. said (words l)) (filter (λ l. not (passed_over l)) ls)

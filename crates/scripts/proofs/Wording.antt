@@ -1,6 +1,5 @@
 -- The first word of a line. Assumes nothing.
-use Rattle.std.proofs.Common.{◌≡◌, ℕ, suc, ◌-◌, ◌<◌, Bool, true, false, cond, List, [], ◌∷◌, length, get_or, take, drop, filter, sym, refl, ap, ◌∙◌, one-add, arith}
-use lib.Seq.{take-length}
+use Rattle.std.proofs.Common.{◌≡◌, ℕ, suc, Bool, true, false, cond, List, [], ◌∷◌, length, take, drop, filter, sym, refl, ap, ◌∙◌, one-add, arith}
 use Rattle.std.specs.List.{prefix_len, flat_map}
 use Rattle.scripts.specs.Words.{space, dark, words, spelled, lengthened}
 
@@ -71,16 +70,12 @@ kept_past (c ∷ cs) = go (space c) refl (kept_past cs)
     go true e later = rw (e, one-add) later
     go false e later = rw e (rw e refl)
 
-keeps_first : (cs : List ℕ) → prefix_len space cs ≡ 0 → 0 < length cs → filter dark cs ≡ get_or cs 0 0 ∷ filter dark (take (length cs - 1) (drop 1 cs))
-keeps_first [] p some = absurd (omega arith)
-keeps_first (c ∷ cs) p some = go (space c) refl
+keeps_first : (c : ℕ) (cs : List ℕ) → prefix_len space (c ∷ cs) ≡ 0 → filter dark (c ∷ cs) ≡ c ∷ filter dark cs
+keeps_first c cs p = go (space c) refl
   where
-    all : take (length (c ∷ cs) - 1) cs ≡ cs
-    all = let h : length (c ∷ cs) - 1 ≡ length cs = omega arith in rw h (take-length cs)
-
-    go : (b : Bool) → space c ≡ b → filter dark (c ∷ cs) ≡ c ∷ filter dark (take (length (c ∷ cs) - 1) cs)
+    go : (b : Bool) → space c ≡ b → filter dark (c ∷ cs) ≡ c ∷ filter dark cs
     go true f = let h = rw f at p in absurd (omega (arith, h))
-    go false f = rw (f, all) refl
+    go false f = rw f refl
 
 module _ (line text : List ℕ) (n : ℕ) (spaces_are : n ≡ prefix_len space line) (text_is : text ≡ drop n line) where
   kept_same : filter dark line ≡ filter dark text
@@ -93,8 +88,10 @@ module _ (line text : List ℕ) (n : ℕ) (spaces_are : n ≡ prefix_len space l
       nothing [] z = refl
       nothing (c ∷ cs) z = absurd (omega arith)
 
-  pub dark_first : 0 < length text → filter dark line ≡ get_or text 0 0 ∷ filter dark (take (length text - 1) (drop 1 text))
-  dark_first some = kept_same ∙ keeps_first text (ap (prefix_len space) text_is ∙ ap (λ i. prefix_len space (drop i line)) spaces_are ∙ no_space line) some
+  pub dark_first : (c : ℕ) (rest : List ℕ) → text ≡ c ∷ rest → filter dark line ≡ c ∷ filter dark rest
+  dark_first c rest e =
+      let none = ap (prefix_len space) (sym e) ∙ ap (prefix_len space) text_is ∙ ap (λ i. prefix_len space (drop i line)) spaces_are ∙ no_space line in
+      kept_same ∙ ap (filter dark) e ∙ keeps_first c rest none
 
 -- what is no space is what the words are, joined
 pub joined_words : (cs : List ℕ) → filter dark cs ≡ flat_map (λ w. w) (words cs)

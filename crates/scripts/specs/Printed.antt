@@ -1,13 +1,13 @@
 -- What a script prints. Assumes nothing.
-use Rattle.std.specs.Prelude.{ℕ, ◌+◌, ◌/◌, ◌%◌, cond, List, [], ◌∷◌, ◌++◌, Ok, Err, codes, decimal, Result, nat_lt}
+use Rattle.std.specs.Prelude.{ℕ, ◌+◌, ◌/◌, ◌%◌, cond, List, [], ◌∷◌, ◌++◌, Some, None, Ok, Err, codes, decimal, Result, nat_lt}
 use Rattle.std.specs.List.{flat_map}
 use Rattle.std.specs.Fmt.{signed_decimal}
 use Rattle.refusals.specs.declared.Refusal.{Refusal}
 use Rattle.refusals.specs.Numbers.{number}
 use Rattle.tokens.specs.declared.token.Token as token
 use Rattle.scripts.specs.Calls.{named}
-use Rattle.scripts.specs.declared.answers.Answer.{Answer}
-use Rattle.scripts.specs.declared.answers.Answer.TheVariants.{BadLine, Done, Nothing, Number, Token, Refused}
+use Rattle.scripts.specs.declared.answers.Value.{Value}
+use Rattle.scripts.specs.declared.answers.Value.TheVariants.{Done, Number, Count, Token}
 
 -- a space before each word
 abbrev pub spaced : List (List ℕ) → List ℕ
@@ -34,13 +34,18 @@ place_text k = signed_decimal k.start ++ (codes " " ++ (signed_decimal k.stop ++
 abbrev pub token_text : token.Token → List ℕ
 token_text k = signed_decimal k.index ++ (codes " " ++ (signed_decimal k.token_type ++ (codes " " ++ (signed_decimal k.channel ++ (codes " " ++ place_text k)))))
 
-abbrev pub answer_text : Answer → List ℕ
-answer_text BadLine = codes "BAD LINE"
-answer_text Done = codes "ok"
-answer_text Nothing = codes "none"
-answer_text (Number z) = signed_decimal z
-answer_text (Token k) = token_text k
-answer_text (Refused e) = refusal_text e
+-- what a call gave: a look for a token may have found none
+abbrev pub value_text : Value → List ℕ
+value_text Done = codes "ok"
+value_text (Number z) = signed_decimal z
+value_text (Count n) = decimal n
+value_text (Token None) = codes "none"
+value_text (Token (Some k)) = token_text k
+
+-- what a call gave, or its refusal
+abbrev pub answer_text : Result Value Refusal → List ℕ
+answer_text (Ok v) = value_text v
+answer_text (Err e) = refusal_text e
 
 -- a byte in hexadecimal
 abbrev pub hex_digit : ℕ → ℕ

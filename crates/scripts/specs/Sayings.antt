@@ -5,7 +5,7 @@ use Rattle.scripts.specs.declared.line.Kind.{Kind}
 use Rattle.scripts.specs.declared.line.Call.{Call}
 use Rattle.scripts.specs.declared.line.Units.TheVariants.{Utf8, Bytes, Halves, Words}
 use Rattle.scripts.specs.declared.line.Line.{Line}
-use Rattle.scripts.specs.declared.line.Line.TheVariants.{Bad, Input, NewToken, ListSource, SheetSource, NewStream, CountAhead, Ask}
+use Rattle.scripts.specs.declared.line.Line.TheVariants.{Input, NewToken, ListSource, SheetSource, NewStream, CountAhead, Ask}
 use Rattle.scripts.specs.Numerals.{number, half, whole, every, joined_bytes}
 use Rattle.scripts.specs.Calls.{named, call_of, token_of, kind_of}
 
@@ -57,16 +57,16 @@ said [] = nothing
 said (name ∷ ws) =
     named name (codes "input") (input_words ws) (named name (codes "source") (source_words ws) (named name (codes "stream") (stream_words ws) (name_numbers name (every number ws))))
 
--- what a line that was read says; the tokens of a list source stand in the lines before it
-abbrev pub saying : Line → Saying
-saying Bad = nothing
-saying (Input (Utf8 v)) = utf8_input (vec_items v)
-saying (Input (Bytes v)) = byte_input (vec_items v)
-saying (Input (Halves v)) = half_input (vec_items v)
-saying (Input (Words v)) = word_input (vec_items v)
-saying (NewToken k) = new_token k
-saying (ListSource v) = list_source
-saying SheetSource = sheet_source
-saying (NewStream k) = new_stream k
-saying (CountAhead v) = count_ahead (vec_items v)
-saying (Ask c) = ask c
+-- what a line that was read says, and nothing where none could be; the tokens of a list source stand in the lines before it
+abbrev pub saying : Option Line → Saying
+saying None = nothing
+saying (Some (Input (Utf8 v))) = utf8_input (vec_items v)
+saying (Some (Input (Bytes v))) = byte_input (vec_items v)
+saying (Some (Input (Halves v))) = half_input (vec_items v)
+saying (Some (Input (Words v))) = word_input (vec_items v)
+saying (Some (NewToken k)) = new_token k
+saying (Some (ListSource v)) = list_source
+saying (Some SheetSource) = sheet_source
+saying (Some (NewStream k)) = new_stream k
+saying (Some (CountAhead v)) = count_ahead (vec_items v)
+saying (Some (Ask c)) = ask c

@@ -29,6 +29,11 @@ abbrev pub spelled : ℕ → List ℕ → List (List ℕ) → List (List ℕ)
 spelled c [] ws = (c ∷ []) ∷ ws
 spelled c (d ∷ ds) ws = cond (space d) ((c ∷ []) ∷ ws) (lengthened c ws)
 
+-- a line feed ends a line; any other byte is put before the line that follows
+abbrev pub lines : List ℕ → List (List ℕ)
+lines [] = []
+lines (c ∷ cs) = cond (c == 10) ([] ∷ lines cs) (lengthened c (lines cs))
+
 -- the words of a line: what stands between spaces
 abbrev pub words : List ℕ → List (List ℕ)
 words [] = []

@@ -1,49 +1,99 @@
 // What a script prints.
-ghost use Rattle.std.specs.Prelude.{◌≡◌, ◌<◌, ◌++◌, IfOk, string_bytes, OnOk};
+ghost use Rattle.std.specs.Prelude.{◌≡◌, ◌<◌, ◌++◌, [], ◌∷◌, IfOk, Some, codes, string_bytes, OnOk};
 ghost use Rattle.std.specs.List.{flat_map};
 ghost use Rattle.scripts.specs.Words.{words};
-ghost use Rattle.scripts.specs.Printed.{spaced, only_first, echo, refusal_text, place_text, token_text, answer_text, hex_digit, hex_byte, bytes_text, count_text};
+ghost use Rattle.scripts.specs.Printed.{spaced, only_first, echo, place_text, token_text, value_text, answer_text, hex_digit, hex_byte, bytes_text, count_text};
 
-use crate::line::is;
-use crate::words::front_word;
+use crate::words::{Words, front_word};
 use refusals::Refusal;
 use std::alloc::{AllocError, Global};
+use std::fmt;
 use tokens::token::Token;
 
-// What a line answers, but for what a call wrote into a buffer.
+// What a call gives, but for what it wrote into a buffer. A look for a token may find none.
 #[derive(Clone, Copy)]
-pub enum Answer {
-    BadLine,
+pub enum Value {
     Done,
-    Nothing,
     Number(i32),
-    Token(Token),
-    Refused(Refusal),
+    Count(usize),
+    Token(Option<Token>),
 }
 
-// A space and the first word, if there is one.
-fn push_word(out: &mut Vec<u8>, line: &[u8]) -> Result<(), AllocError>
-    ensures after { OnOk result (out.new.items ≡ out.old.items ++ spaced (only_first (words line.now))) }
+// What a line answers: what its call gave, or why it was refused.
+pub type Answer = Result<Value, Refusal>;
+
+// Where a token stands in its input.
+#[derive(Clone, Copy)]
+struct Place(Token);
+
+impl fmt::Display for Place {
+    ghost output = { λ p. Some (place_text p.0) };
+
+    fn fmt<W: fmt::Write>(&self, f: &mut fmt::Formatter<W>) -> fmt::Result {
+        let start = self.0.start;
+        let stop = self.0.stop;
+        let line = self.0.line;
+        let column = self.0.column;
+        write!(f, "{start} {stop} {line} {column}")
+    }
+}
+
+// A token, by its seven numbers.
+#[derive(Clone, Copy)]
+struct Numbers(Token);
+
+impl fmt::Display for Numbers {
+    ghost output = { λ n. Some (token_text n.0) };
+
+    fn fmt<W: fmt::Write>(&self, f: &mut fmt::Formatter<W>) -> fmt::Result {
+        let index = self.0.index;
+        let token_type = self.0.token_type;
+        let channel = self.0.channel;
+        let place = Place(self.0);
+        write!(f, "{index} {token_type} {channel} {place}")
+    }
+}
+
+impl fmt::Display for Value {
+    ghost output = { λ v. Some (value_text v) };
+
+    fn fmt<W: fmt::Write>(&self, f: &mut fmt::Formatter<W>) -> fmt::Result {
+        match self {
+            Value::Done => write!(f, "ok"),
+            Value::Number(number) => write!(f, "{number}"),
+            Value::Count(count) => write!(f, "{count}"),
+            Value::Token(None) => write!(f, "none"),
+            Value::Token(Some(token)) => write!(f, "{}", Numbers(*token)),
+        }
+    }
+}
+
+// A space and a word.
+fn push_word(out: &mut Vec<u8>, word: &[u8]) -> Result<(), AllocError>
+    ensures after { OnOk result (out.new.items ≡ out.old.items ++ 32 ∷ word.now) }
 {
-    let Some((word, _)) = front_word(line) else {
-        return Ok(());
-    };
     out.push(b' ')?;
-    out.extend_from_slice(word)?;
-    Ok(())
+    out.extend_from_slice(word)
 }
 
 // A space and a word, for each word.
 fn push_words(out: &mut Vec<u8>, line: &[u8]) -> Result<(), AllocError>
     ensures after { OnOk result (out.new.items ≡ out.old.items ++ spaced (words line.now)) }
 {
-    let mut rest = line;
-    'words: while let Some((word, more)) = front_word(rest) {
-        out.push(b' ')?;
-        out.extend_from_slice(word)?;
-        rest = more;
+    for word in Words::of(line) {
+        push_word(out, word)?;
     }
     Ok(())
+}
+
+// The same of the first word only.
+fn push_first(out: &mut Vec<u8>, line: &[u8]) -> Result<(), AllocError>
+    ensures after { OnOk result (out.new.items ≡ out.old.items ++ spaced (only_first (words line.now))) }
+{
+    match front_word(line) {
+        Some((word, _)) => push_word(out, word),
+        None => Ok(()),
+    }
 }
 
 // The words of a line, with a space between. Of an input, which can be long, only the first two.
@@ -54,42 +104,10 @@ pub fn push_echo(out: &mut Vec<u8>, line: &[u8]) -> Result<(), AllocError>
         return Ok(());
     };
     out.extend_from_slice(first)?;
-    if is(first, b"input") {
-        push_word(out, rest)?;
-    } else {
-        push_words(out, rest)?;
+    match first {
+        b"input" => push_first(out, rest),
+        _ => push_words(out, rest),
     }
-    Ok(())
-}
-
-// Where a token stands in its input.
-fn place_text(heap: Global, token: &Token) -> Result<String, AllocError>
-    ensures made { IfOk result (λ s. string_bytes s ≡ place_text token.now) }
-{
-    let start = token.start;
-    let stop = token.stop;
-    let line = token.line;
-    let column = token.column;
-    format!(in heap; "{start} {stop} {line} {column}")
-}
-
-// The numbers of a token.
-fn token_text(heap: Global, token: &Token) -> Result<String, AllocError>
-    ensures made { IfOk result (λ s. string_bytes s ≡ token_text token.now) }
-{
-    let place = place_text(heap, token)?;
-    let index = token.index;
-    let token_type = token.token_type;
-    let channel = token.channel;
-    format!(in heap; "{index} {token_type} {channel} {place}")
-}
-
-// A refusal, by its number.
-fn refusal_text(heap: Global, refusal: Refusal) -> Result<String, AllocError>
-    ensures made { IfOk result (λ s. string_bytes s ≡ refusal_text refusal) }
-{
-    let number = refusal.number();
-    format!(in heap; "REFUSED {number}")
 }
 
 // The text of an answer.
@@ -97,21 +115,24 @@ fn answer_text(heap: Global, answer: Answer) -> Result<String, AllocError>
     ensures made { IfOk result (λ s. string_bytes s ≡ answer_text answer) }
 {
     match answer {
-        Answer::BadLine => String::from_str(heap, "BAD LINE"),
-        Answer::Done => String::from_str(heap, "ok"),
-        Answer::Nothing => String::from_str(heap, "none"),
-        Answer::Number(number) => format!(in heap; "{number}"),
-        Answer::Token(token) => token_text(heap, &token),
-        Answer::Refused(refusal) => refusal_text(heap, refusal),
+        Ok(value) => value.to_string(heap),
+        Err(refusal) => format!(in heap; "REFUSED {}", refusal.number()),
     }
 }
 
-// An answer.
-pub fn push_answer(out: &mut Vec<u8>, heap: Global, answer: Answer) -> Result<(), AllocError>
+// What a call gave, or its refusal.
+pub fn push_answer(out: &mut Vec<u8>, answer: Answer) -> Result<(), AllocError>
     ensures after { OnOk result (out.new.items ≡ out.old.items ++ answer_text answer) }
 {
-    let text = answer_text(heap, answer)?;
+    let text = answer_text(*out.allocator(), answer)?;
     out.extend_from_slice(text.as_bytes())
+}
+
+// What stands in place of an answer where a line says nothing.
+pub fn push_bad_line(out: &mut Vec<u8>) -> Result<(), AllocError>
+    ensures after { OnOk result (out.new.items ≡ out.old.items ++ codes "BAD LINE") }
+{
+    out.extend_from_slice(b"BAD LINE")
 }
 
 // The hexadecimal digit of a number below 16.
@@ -119,7 +140,7 @@ fn hex_digit(n: u8) -> u8
     requires small { n < 16 }
     ensures value { result ≡ hex_digit n }
 {
-    if n < 10 { 48 + n } else { 87 + n }
+    char::from_digit(u32::from(n), 16).unwrap() as u8
 }
 
 // A byte in hexadecimal.
@@ -147,31 +168,17 @@ fn push_bytes(out: &mut Vec<u8>, bytes: &[u8]) -> Result<(), AllocError>
         return out.extend_from_slice(b" :");
     }
     out.extend_from_slice(b" : ")?;
-    push_hex(out, bytes)?;
-    Ok(())
-}
-
-// The count of a call that wrote, or its refusal.
-fn count_text(heap: Global, res: Result<usize, Refusal>) -> Result<String, AllocError>
-    ensures made { IfOk result (λ s. string_bytes s ≡ count_text res) }
-{
-    match res {
-        Ok(count) => format!(in heap; "{count}"),
-        Err(refusal) => refusal_text(heap, refusal),
-    }
+    push_hex(out, bytes)
 }
 
 // What a call wrote into a buffer, and the buffer after the call.
 pub fn push_written(
     out: &mut Vec<u8>,
-    heap: Global,
     res: Result<usize, Refusal>,
     buffer: &[u8],
 ) -> Result<(), AllocError>
     ensures after { OnOk result (out.new.items ≡ out.old.items ++ (count_text res ++ bytes_text buffer.now)) }
 {
-    let text = count_text(heap, res)?;
-    out.extend_from_slice(text.as_bytes())?;
-    push_bytes(out, buffer)?;
-    Ok(())
+    push_answer(out, res.map(Value::Count))?;
+    push_bytes(out, buffer)
 }

@@ -1,19 +1,18 @@
 // What a line of a script says.
 ghost use Rattle.std.specs.Prelude.{◌≡◌, [], ◌∷◌, IfOk, Some};
 ghost use Rattle.std.specs.Option.{option_map};
-ghost use Rattle.std.specs.Str.{bytes_eq};
 ghost use Rattle.scripts.specs.Words.{words};
-ghost use Rattle.scripts.specs.Numerals.{every, number, half, whole, joined_bytes};
-ghost use Rattle.scripts.specs.declared.line.Call.TheVariants.{AllText};
-ghost use Rattle.scripts.specs.Calls.{room, released, bare_call, one_call, two_call, roomy_call, three_call, call_of, token_of, kind_of};
-ghost use Rattle.scripts.specs.Sayings.{saying, said, if_read, utf8_input, byte_input, half_input, word_input, new_token, ask, input_words, source_words, stream_words, name_numbers};
+ghost use Rattle.scripts.specs.Numerals.{every, number};
+ghost use Rattle.scripts.specs.declared.line.Line.TheVariants.{Input};
+ghost use Rattle.scripts.specs.Calls.{room, released, bare_call, one_call, two_call, three_call, call_of, token_of, kind_of};
+ghost use Rattle.scripts.specs.Sayings.{saying, said, input_words, source_words, stream_words, name_numbers};
 
-use crate::numerals::{bytes, halves, numbers, wholes};
+use crate::numerals::{bytes, numerals};
 use crate::words::front_word;
 use std::alloc::{AllocError, Global};
 use tokens::token::{Token, UNSTAMPED};
 
-const MOST_ROOM: i32 = 1_048_576;
+const MOST_ROOM: usize = 1_048_576;
 
 // The units of an input, by their kind.
 #[derive(Drop)]
@@ -58,7 +57,6 @@ pub enum Call {
 // A line, with what it takes along. A list source has the tokens of the lines since the list source before it.
 #[derive(Drop)]
 pub enum Line {
-    Bad,
     Input(Units),
     NewToken(Token),
     ListSource(Vec<Token>),
@@ -68,67 +66,36 @@ pub enum Line {
     Ask(Call),
 }
 
-// Whether a word is a name.
-pub(crate) fn is(word: &[u8], name: &[u8]) -> bool
-    ensures value { result ≡ bytes_eq word.now name.now }
-{
-    word == name
-}
-
 // How large a buffer is.
 fn room(n: i32) -> Option<usize>
     ensures value { result ≡ room n }
 {
-    if n < 0 {
-        return None;
-    }
-    if n > MOST_ROOM {
-        return None;
-    }
-    Some(n as usize)
+    usize::try_from(n).ok().filter(|room| *room <= MOST_ROOM)
 }
 
 // Marks are numbered from -255 to 0.
 fn released(n: i32) -> Option<Call>
     ensures value { result ≡ released n }
 {
-    if n > 0 {
-        return None;
+    if (-255..=0).contains(&n) {
+        Some(Call::Release(n))
+    } else {
+        None
     }
-    if n < -255 {
-        return None;
-    }
-    Some(Call::Release(n))
 }
 
 // The calls with no number.
 fn bare(name: &[u8]) -> Option<Call>
     ensures value { result ≡ bare_call name.now }
 {
-    if is(name, b"consume") {
-        Some(Call::Consume)
-    } else if is(name, b"index") {
-        Some(Call::Index)
-    } else if is(name, b"size") {
-        Some(Call::Size)
-    } else if is(name, b"reset") {
-        Some(Call::Reset)
-    } else if is(name, b"mark") {
-        Some(Call::Mark)
-    } else if is(name, b"close") {
-        Some(Call::Close)
-    } else {
-        None
-    }
-}
-
-// The call that fills a whole buffer, if it can be so large.
-fn all_text(n: i32) -> Option<Call>
-    ensures value { result ≡ option_map AllText (room n) }
-{
-    match room(n) {
-        Some(room) => Some(Call::AllText(room)),
-        None => None,
+    match name {
+        b"consume" => Some(Call::Consume),
+        b"index" => Some(Call::Index),
+        b"size" => Some(Call::Size),
+        b"reset" => Some(Call::Reset),
+        b"mark" => Some(Call::Mark),
+        b"close" => Some(Call::Close),
+        _ => None,
     }
 }
 
@@ -136,22 +103,15 @@ fn all_text(n: i32) -> Option<Call>
 fn with_one(name: &[u8], k: i32) -> Option<Call>
     ensures value { result ≡ one_call name.now k }
 {
-    if is(name, b"open") {
-        Some(Call::Open(k))
-    } else if is(name, b"la") {
-        Some(Call::La(k))
-    } else if is(name, b"lt") {
-        Some(Call::Lt(k))
-    } else if is(name, b"seek") {
-        Some(Call::Seek(k))
-    } else if is(name, b"get") {
-        Some(Call::Get(k))
-    } else if is(name, b"release") {
-        released(k)
-    } else if is(name, b"all-text") {
-        all_text(k)
-    } else {
-        None
+    match name {
+        b"open" => Some(Call::Open(k)),
+        b"la" => Some(Call::La(k)),
+        b"lt" => Some(Call::Lt(k)),
+        b"seek" => Some(Call::Seek(k)),
+        b"get" => Some(Call::Get(k)),
+        b"release" => released(k),
+        b"all-text" => room(k).map(Call::AllText),
+        _ => None,
     }
 }
 
@@ -159,27 +119,9 @@ fn with_one(name: &[u8], k: i32) -> Option<Call>
 fn with_two(name: &[u8], start: i32, stop: i32) -> Option<Call>
     ensures value { result ≡ two_call name.now start stop }
 {
-    if is(name, b"text") {
-        Some(Call::Interval(start, stop))
-    } else {
-        None
-    }
-}
-
-// The calls with two numbers and a room.
-fn with_room(name: &[u8], a: i32, b: i32, room: usize) -> Option<Call>
-    ensures value { result ≡ roomy_call name.now a b room }
-{
-    if is(name, b"text") {
-        Some(Call::Text(a, b, room))
-    } else if is(name, b"text-of") {
-        Some(Call::TextOf(a, b, room))
-    } else if is(name, b"hidden-left") {
-        Some(Call::HiddenLeft(a, b, room))
-    } else if is(name, b"hidden-right") {
-        Some(Call::HiddenRight(a, b, room))
-    } else {
-        None
+    match name {
+        b"text" => Some(Call::Interval(start, stop)),
+        _ => None,
     }
 }
 
@@ -187,9 +129,13 @@ fn with_room(name: &[u8], a: i32, b: i32, room: usize) -> Option<Call>
 fn with_three(name: &[u8], a: i32, b: i32, last: i32) -> Option<Call>
     ensures value { result ≡ three_call name.now a b (room last) }
 {
-    match room(last) {
-        Some(room) => with_room(name, a, b, room),
-        None => None,
+    let room = room(last)?;
+    match name {
+        b"text" => Some(Call::Text(a, b, room)),
+        b"text-of" => Some(Call::TextOf(a, b, room)),
+        b"hidden-left" => Some(Call::HiddenLeft(a, b, room)),
+        b"hidden-right" => Some(Call::HiddenRight(a, b, room)),
+        _ => None,
     }
 }
 
@@ -210,18 +156,18 @@ fn call_of(name: &[u8], numbers: &[i32]) -> Option<Call>
 fn token_of(numbers: &[i32]) -> Option<Token>
     ensures value { result ≡ token_of numbers.now }
 {
-    match numbers {
-        [token_type, channel, start, stop, line, column] => Some(Token {
-            token_type: *token_type,
-            channel: *channel,
-            start: *start,
-            stop: *stop,
-            line: *line,
-            column: *column,
-            index: UNSTAMPED,
-        }),
-        _ => None,
-    }
+    let &[token_type, channel, start, stop, line, column] = numbers else {
+        return None;
+    };
+    Some(Token {
+        token_type,
+        channel,
+        start,
+        stop,
+        line,
+        column,
+        index: UNSTAMPED,
+    })
 }
 
 // The stream of a kind with numbers.
@@ -238,175 +184,110 @@ fn kind_of(kind: &[u8], numbers: &[i32]) -> Option<Kind>
 fn bare_kind(kind: &[u8]) -> Option<Kind>
     ensures value { result ≡ kind_of kind.now [] }
 {
-    if is(kind, b"unbuffered") {
-        Some(Kind::Unbuffered)
-    } else if is(kind, b"chars") {
-        Some(Kind::Chars)
-    } else {
-        None
+    match kind {
+        b"unbuffered" => Some(Kind::Unbuffered),
+        b"chars" => Some(Kind::Chars),
+        _ => None,
     }
 }
 
 fn common_kind(kind: &[u8], channel: i32) -> Option<Kind>
     ensures value { result ≡ kind_of kind.now (channel ∷ []) }
 {
-    if is(kind, b"common") {
-        Some(Kind::Common(channel))
-    } else {
-        None
+    match kind {
+        b"common" => Some(Kind::Common(channel)),
+        _ => None,
     }
 }
 
-// An input in UTF-8.
-fn utf8_input(heap: Global, line: &[u8]) -> Result<Line, AllocError>
-    ensures made { IfOk result (λ l. saying l ≡ if_read utf8_input (joined_bytes (words line.now))) }
+// The units of a kind that words write.
+fn input_units(heap: Global, kind: &[u8], line: &[u8]) -> Result<Option<Units>, AllocError>
+    ensures made { IfOk result (λ o. saying (option_map Input o) ≡ input_words (kind.now ∷ words line.now)) }
 {
-    match bytes(heap, line)? {
-        Some(units) => Ok(Line::Input(Units::Utf8(units))),
-        None => Ok(Line::Bad),
-    }
-}
-
-// An input of 8-bit units.
-fn byte_input(heap: Global, line: &[u8]) -> Result<Line, AllocError>
-    ensures made { IfOk result (λ l. saying l ≡ if_read byte_input (joined_bytes (words line.now))) }
-{
-    match bytes(heap, line)? {
-        Some(units) => Ok(Line::Input(Units::Bytes(units))),
-        None => Ok(Line::Bad),
-    }
-}
-
-// An input of 16-bit units.
-fn half_input(heap: Global, line: &[u8]) -> Result<Line, AllocError>
-    ensures made { IfOk result (λ l. saying l ≡ if_read half_input (every half (words line.now))) }
-{
-    match halves(heap, line)? {
-        Some(units) => Ok(Line::Input(Units::Halves(units))),
-        None => Ok(Line::Bad),
-    }
-}
-
-// An input of 32-bit units.
-fn word_input(heap: Global, line: &[u8]) -> Result<Line, AllocError>
-    ensures made { IfOk result (λ l. saying l ≡ if_read word_input (every whole (words line.now))) }
-{
-    match wholes(heap, line)? {
-        Some(units) => Ok(Line::Input(Units::Words(units))),
-        None => Ok(Line::Bad),
+    match kind {
+        b"utf8" => Ok(bytes(heap, line)?.map(Units::Utf8)),
+        b"u8" => Ok(bytes(heap, line)?.map(Units::Bytes)),
+        b"u16" => Ok(numerals(heap, line)?.map(Units::Halves)),
+        b"u32" => Ok(numerals(heap, line)?.map(Units::Words)),
+        _ => Ok(None),
     }
 }
 
 // An input of the kind that the first word names.
-fn input_line(heap: Global, line: &[u8]) -> Result<Line, AllocError>
-    ensures made { IfOk result (λ l. saying l ≡ input_words (words line.now)) }
+fn input_line(heap: Global, line: &[u8]) -> Result<Option<Line>, AllocError>
+    ensures made { IfOk result (λ o. saying o ≡ input_words (words line.now)) }
 {
     let Some((kind, rest)) = front_word(line) else {
-        return Ok(Line::Bad);
+        return Ok(None);
     };
-    if is(kind, b"utf8") {
-        utf8_input(heap, rest)
-    } else if is(kind, b"u8") {
-        byte_input(heap, rest)
-    } else if is(kind, b"u16") {
-        half_input(heap, rest)
-    } else if is(kind, b"u32") {
-        word_input(heap, rest)
-    } else {
-        Ok(Line::Bad)
-    }
+    Ok(input_units(heap, kind, rest)?.map(Line::Input))
 }
 
 // A source. The tokens of a list are added by whoever has read the lines before it.
-fn source_line(heap: Global, line: &[u8]) -> Line
+fn source_line(heap: Global, line: &[u8]) -> Option<Line>
     ensures value { saying result ≡ source_words (words line.now) }
 {
-    let Some((kind, rest)) = front_word(line) else {
-        return Line::Bad;
-    };
+    let (kind, rest) = front_word(line)?;
     if front_word(rest).is_some() {
-        return Line::Bad;
+        return None;
     }
-    if is(kind, b"list") {
-        Line::ListSource(Vec::new(heap))
-    } else if is(kind, b"sheet") {
-        Line::SheetSource
-    } else {
-        Line::Bad
+    match kind {
+        b"list" => Some(Line::ListSource(Vec::new(heap))),
+        b"sheet" => Some(Line::SheetSource),
+        _ => None,
     }
 }
 
 // A stream of the kind that the first word names.
-fn stream_line(heap: Global, line: &[u8]) -> Result<Line, AllocError>
-    ensures made { IfOk result (λ l. saying l ≡ stream_words (words line.now)) }
+fn stream_line(heap: Global, line: &[u8]) -> Result<Option<Line>, AllocError>
+    ensures made { IfOk result (λ o. saying o ≡ stream_words (words line.now)) }
 {
     let Some((kind, rest)) = front_word(line) else {
-        return Ok(Line::Bad);
+        return Ok(None);
     };
-    let Some(found) = numbers(heap, rest)? else {
-        return Ok(Line::Bad);
+    let Some(found) = numerals::<i32>(heap, rest)? else {
+        return Ok(None);
     };
-    match kind_of(kind, found.as_slice()) {
-        Some(kind) => Ok(Line::NewStream(kind)),
-        None => Ok(Line::Bad),
-    }
-}
-
-// A token, if there are six numbers.
-fn token_line(numbers: &[i32]) -> Line
-    ensures value { saying result ≡ if_read new_token (token_of numbers.now) }
-{
-    match token_of(numbers) {
-        Some(token) => Line::NewToken(token),
-        None => Line::Bad,
-    }
-}
-
-// A call of a name with numbers.
-fn call_line(name: &[u8], numbers: &[i32]) -> Line
-    ensures value { saying result ≡ if_read ask (call_of name.now numbers.now) }
-{
-    match call_of(name, numbers) {
-        Some(call) => Line::Ask(call),
-        None => Line::Bad,
-    }
+    Ok(kind_of(kind, found.as_slice()).map(Line::NewStream))
 }
 
 // A line of a name with numbers.
-fn named_line(name: &[u8], found: Vec<i32>) -> Line
+fn named_line(name: &[u8], found: Vec<i32>) -> Option<Line>
     ensures value { saying result ≡ name_numbers name.now (Some found.items) }
 {
-    if is(name, b"count-ahead") {
-        Line::CountAhead(found)
-    } else if is(name, b"token") {
-        token_line(found.as_slice())
+    // Tests in place of a `match`, whose last arm could not be proved: it goes on with a call.
+    if name == b"count-ahead".as_slice() {
+        Some(Line::CountAhead(found))
+    } else if name == b"token".as_slice() {
+        token_of(found.as_slice()).map(Line::NewToken)
     } else {
-        call_line(name, found.as_slice())
+        call_of(name, found.as_slice()).map(Line::Ask)
     }
 }
 
 // A line of a name, if only numbers follow it.
-fn numbers_line(heap: Global, name: &[u8], rest: &[u8]) -> Result<Line, AllocError>
-    ensures made { IfOk result (λ l. saying l ≡ name_numbers name.now (every number (words rest.now))) }
+fn numbers_line(heap: Global, name: &[u8], line: &[u8]) -> Result<Option<Line>, AllocError>
+    ensures made { IfOk result (λ o. saying o ≡ name_numbers name.now (every number (words line.now))) }
 {
-    match numbers(heap, rest)? {
-        Some(found) => Ok(named_line(name, found)),
-        None => Ok(Line::Bad),
-    }
+    let Some(found) = numerals(heap, line)? else {
+        return Ok(None);
+    };
+    Ok(named_line(name, found))
 }
 
-// What a line says.
-pub fn read_line(heap: Global, line: &[u8]) -> Result<Line, AllocError>
-    ensures made { IfOk result (λ l. saying l ≡ said (words line.now)) }
+// What a line says, if it says anything.
+pub fn read_line(heap: Global, line: &[u8]) -> Result<Option<Line>, AllocError>
+    ensures made { IfOk result (λ o. saying o ≡ said (words line.now)) }
 {
     let Some((name, rest)) = front_word(line) else {
-        return Ok(Line::Bad);
+        return Ok(None);
     };
-    if is(name, b"input") {
+    // Tests, as in `named_line`.
+    if name == b"input".as_slice() {
         input_line(heap, rest)
-    } else if is(name, b"source") {
+    } else if name == b"source".as_slice() {
         Ok(source_line(heap, rest))
-    } else if is(name, b"stream") {
+    } else if name == b"stream".as_slice() {
         stream_line(heap, rest)
     } else {
         numbers_line(heap, name, rest)

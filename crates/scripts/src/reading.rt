@@ -4,39 +4,44 @@ ghost use Rattle.scripts.specs.Sayings.{saying};
 ghost use Rattle.scripts.specs.Scripts.{sayings};
 
 use crate::line::{Line, read_line};
-use crate::words::{front_line, passed_over};
+use crate::words::{Lines, passed_over};
 use std::alloc::{AllocError, Global};
 use std::mem;
 use tokens::token::Token;
 
 // A token waits for the next list source, which takes all that wait.
-fn with_tokens(heap: Global, line: Line, tokens: &mut Vec<Token>) -> Result<Line, AllocError>
-    ensures made { IfOk result (λ l. saying l ≡ saying line) }
+fn with_tokens(
+    heap: Global,
+    line: Option<Line>,
+    tokens: &mut Vec<Token>,
+) -> Result<Option<Line>, AllocError>
+    ensures made { IfOk result (λ o. saying o ≡ saying line) }
 {
     match line {
-        Line::NewToken(token) => {
+        Some(Line::NewToken(token)) => {
             tokens.push(token)?;
-            Ok(Line::NewToken(token))
+            Ok(Some(Line::NewToken(token)))
         }
-        Line::ListSource(_) => Ok(Line::ListSource(mem::replace(tokens, Vec::new(heap)))),
+        Some(Line::ListSource(_)) => Ok(Some(Line::ListSource(mem::replace(
+            tokens,
+            Vec::new(heap),
+        )))),
         line => Ok(line),
     }
 }
 
 // What the lines of a script say, without those that are passed over.
-pub fn read_script(heap: Global, script: &[u8]) -> Result<Vec<Line>, AllocError>
+pub fn read_script(heap: Global, script: &[u8]) -> Result<Vec<Option<Line>>, AllocError>
     ensures made { IfOk result (λ v. map saying v.items ≡ sayings script.now) }
 {
     let mut lines = Vec::new(heap);
     let mut tokens = Vec::new(heap);
-    let mut rest = script;
-    'lines: while !rest.is_empty() {
-        let (text, more) = front_line(rest);
-        rest = more;
-        if !passed_over(text) {
-            let line = read_line(heap, text)?;
-            lines.push(with_tokens(heap, line, &mut tokens)?)?;
+    for text in Lines::of(script) {
+        if passed_over(text) {
+            continue;
         }
+        let line = read_line(heap, text)?;
+        lines.push(with_tokens(heap, line, &mut tokens)?)?;
     }
     Ok(lines)
 }

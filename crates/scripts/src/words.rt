@@ -1,25 +1,27 @@
 // The lines of a script, and the words of a line.
-ghost use Rattle.std.specs.Prelude.{◌≡◌, ◌<◌, ◌≤◌, not, [], ◌∷◌, length, IfSome, MatchOption, ◌==◌};
+ghost use Rattle.std.specs.Prelude.{◌≡◌, ◌<◌, ◌≤◌, [], ◌∷◌, length, IfSome, MatchOption};
 ghost use Rattle.std.specs.List.{prefix_len};
-ghost use Rattle.scripts.specs.Words.{space, first_line, later_lines, words, passed_over};
+ghost use Rattle.std.specs.Iterator.{YieldsFirstRef, item_count};
+ghost use Rattle.scripts.specs.Words.{space, dark, in_line, first_line, later_lines, lines, words, passed_over};
 
 const SPACE: u8 = b' ';
 
 const LINE_FEED: u8 = b'\n';
 
-// How many bytes come before the first one that ends a run, or the end.
-fn run_up_to(text: &[u8], stop: u8) -> usize
-    ensures value { result ≡ prefix_len (λ c. not (c == stop)) text.now }
+// How many bytes come before a text's first line feed, or its end.
+fn line_len(text: &[u8]) -> usize
+    ensures value { result ≡ prefix_len in_line text.now }
     ensures inside { result ≤ length text.now }
 {
-    let mut at = 0;
-    'run: while at < text.len() {
-        if text[at] == stop {
-            break;
-        }
-        at += 1;
-    }
-    at
+    text.iter().take_while(|byte| **byte != LINE_FEED).count()
+}
+
+// How many bytes come before a text's first space, or its end.
+fn word_len(text: &[u8]) -> usize
+    ensures value { result ≡ prefix_len dark text.now }
+    ensures inside { result ≤ length text.now }
+{
+    text.iter().take_while(|byte| **byte != SPACE).count()
 }
 
 // How many spaces a text begins with.
@@ -27,14 +29,7 @@ pub(crate) fn spaces(text: &[u8]) -> usize
     ensures value { result ≡ prefix_len space text.now }
     ensures inside { result ≤ length text.now }
 {
-    let mut at = 0;
-    'run: while at < text.len() {
-        if text[at] != SPACE {
-            break;
-        }
-        at += 1;
-    }
-    at
+    text.iter().take_while(|byte| **byte == SPACE).count()
 }
 
 // The first line, and what follows its line feed.
@@ -43,10 +38,11 @@ pub fn front_line(script: &[u8]) -> (&[u8], &[u8])
     ensures rest { result.1.now ≡ later_lines script.now }
     ensures shorter { 0 < length script.now → length result.1.now < length script.now }
 {
-    let end = run_up_to(script, LINE_FEED);
-    let (line, more) = script.split_at(end);
-    let (_, rest) = more.split_at(more.len().min(1));
-    (line, rest)
+    let (line, more) = script.split_at(line_len(script));
+    match more {
+        [_, rest @ ..] => (line, rest),
+        [] => (line, more),
+    }
 }
 
 // The first word, and what follows it.
@@ -55,22 +51,75 @@ pub fn front_word(line: &[u8]) -> Option<(&[u8], &[u8])>
     ensures shorter { IfSome result (λ p. length p.1.now < length line.now) }
 {
     let (_, text) = line.split_at(spaces(line));
-    let end = run_up_to(text, SPACE);
+    let end = word_len(text);
     if end == 0 {
         return None;
     }
     Some(text.split_at(end))
 }
 
+// The lines of a script, one after the other.
+#[derive(Clone, Copy)]
+pub struct Lines<'a> {
+    script: &'a [u8],
+}
+
+impl<'a> Lines<'a> {
+    pub fn of(script: &'a [u8]) -> Self
+        ensures { result.script.now ≡ script.now }
+    {
+        Lines { script }
+    }
+}
+
+impl<'a> Iterator for Lines<'a> {
+    type Item = &'a [u8];
+
+    ghost next_gives = { YieldsFirstRef (λ s. lines s.script.now) };
+
+    ghost remaining = { item_count (λ s. lines s.script.now) };
+
+    fn next(&mut self) -> Option<&'a [u8]> {
+        if self.script.is_empty() {
+            return None;
+        }
+        let (line, rest) = front_line(self.script);
+        self.script = rest;
+        Some(line)
+    }
+}
+
+// The words of a line, one after the other.
+#[derive(Clone, Copy)]
+pub(crate) struct Words<'a> {
+    line: &'a [u8],
+}
+
+impl<'a> Words<'a> {
+    pub(crate) fn of(line: &'a [u8]) -> Self
+        ensures { result.line.now ≡ line.now }
+    {
+        Words { line }
+    }
+}
+
+impl<'a> Iterator for Words<'a> {
+    type Item = &'a [u8];
+
+    ghost next_gives = { YieldsFirstRef (λ s. words s.line.now) };
+
+    ghost remaining = { item_count (λ s. words s.line.now) };
+
+    fn next(&mut self) -> Option<&'a [u8]> {
+        let (word, rest) = front_word(self.line)?;
+        self.line = rest;
+        Some(word)
+    }
+}
+
 // Whether a line is passed over: it has no word, or is a remark.
 pub fn passed_over(line: &[u8]) -> bool
     ensures value { result ≡ passed_over line.now }
 {
-    let Some(first) = line.first() else {
-        return true;
-    };
-    if *first == b'#' {
-        return true;
-    }
-    front_word(line).is_none()
+    line.starts_with(b"#") || front_word(line).is_none()
 }

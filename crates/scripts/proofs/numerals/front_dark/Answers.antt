@@ -1,13 +1,9 @@
-use Rattle.std.proofs.Common.{◌≡◌, ◌<◌, length, rules}
 use Rattle.scripts.proofs.Wording.{dark_first, dark_none}
 use Rattle.scripts.proofs.numerals.front_dark.Goals as goal
 
-pub returns-in_default : goal.returns-in_default
-returns-in_default c =
-    let none : length c.split_at.result.1.now ≡ 0 = search rules in
-    record { cases = dark_none _ _ _ c.spaces.ensures.value c.split_at.ensures.back none; shorter = tt }
+pub returns-in_err-first-clause-cases : goal.returns-in_err-first-clause-cases
+returns-in_err-first-clause-cases c =
+    rw c.from_residual.ensures (dark_none _ _ _ c.spaces.ensures.value c.split_at.ensures.back c.in_err-first.ensures.cases)
 
-pub returns : goal.returns
-returns c =
-    let some : 0 < length c.split_at.result.1.now = search rules in
-    record { cases = dark_first _ _ _ c.spaces.ensures.value c.split_at.ensures.back some; shorter = search rules }
+pub returns-clause-cases : goal.returns-clause-cases
+returns-clause-cases c = dark_first _ _ _ c.spaces.ensures.value c.split_at.ensures.back _ _ c.in_ok-first.ensures.cases.0

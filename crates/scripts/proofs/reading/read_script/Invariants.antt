@@ -1,10 +1,9 @@
-use Rattle.std.proofs.Common.{◌≡◌, ◌++◌, map, length, vec_items}
+use Rattle.std.proofs.Common.{◌≡◌, ◌++◌, map, vec_items}
+use Rattle.scripts.specs.Words.{lines}
 use Rattle.scripts.specs.Sayings.{saying}
 use Rattle.scripts.specs.Scripts.{sayings}
+use Rattle.scripts.proofs.Lining.{told}
 use Rattle.scripts.proofs.reading.read_script.Given as goal
 
-abbrev pub invariant-lines : goal.invariant-lines
-invariant-lines l = map saying (vec_items l.lines) ++ sayings l.rest ≡ sayings l.script
-
-abbrev pub decreases-lines : goal.decreases-lines
-decreases-lines l = length l.rest
+abbrev pub invariant-loop-text : goal.invariant-loop-text
+invariant-loop-text l = map saying (vec_items l.lines) ++ told (lines l.text-iterator.script.now) ≡ sayings l.script
