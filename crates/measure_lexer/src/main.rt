@@ -24,10 +24,10 @@ fn count(text: Utf8Text) -> u64 {
 }
 
 fn run(rt: &HostRuntime) -> anyhow::Result<()> {
-    let rounds = match env::args(rt)?.nth(1) {
-        Some(word) => word.as_str().parse::<u32>()?,
-        None => 1,
-    };
+    let mut rounds = 1u32;
+    for word in env::args(rt)?.skip(1) {
+        rounds = word.as_str().parse::<u32>()?;
+    }
     let mut sheet = Vec::new(rt.alloc());
     rt.stdin().take(65_537).read_to_end(&mut sheet)?;
     let bytes = sheet.as_slice();
