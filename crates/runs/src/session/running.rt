@@ -18,7 +18,7 @@ use streams::mark::{Kept, Mark, Marks, Numbering, Pile};
 use token_streams::token_stream::UnbufferedTokenStream;
 use tokens::token_source::TokenSource;
 
-// A mark of a number, and the marks that it is of.
+// A mark of a number, and the ledger that made it: no mark is made but by a ledger.
 fn stranger(number: i32) -> (Marks, Mark)
     ensures number { result.1.number ≡ number }
     ensures latest { numbers result.0.numbering result.0.out ≡ number ∷ [] }
