@@ -179,7 +179,7 @@ pub trait InputData: Sized {
         len
     }
 
-    // Writes the text in UTF-8.
+    // Writes the text in UTF-8 to the front of an output, and answers how many bytes that took.
     fn to_display(&self, out: &mut [u8]) -> Result<usize, Refusal>
         ensures value { answer result ≡ written (display (meaning self.now)) out.old }
         ensures after { out.new ≡ overwritten (display (meaning self.now)) out.old }

@@ -13,7 +13,8 @@ const MOST_UNITS: usize = utf8::MOST_BYTES;
 // A code point has at most 31 bits.
 const CODE_LIMIT: u32 = 1 << 31;
 
-// A unit of text: a number.
+// A unit of text: a number. `Into<u32>` would promise a relation of a unit and its number, where contracts map a function over the
+// units.
 pub trait Unit: Copy {
     ghost number: { Self → ℕ };
 
