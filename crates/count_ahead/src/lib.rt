@@ -3,7 +3,7 @@
 
 ghost use Rattle.std.specs.Prelude.{◌≡◌, ℕ, ◌<◌, true, length, IfOk};
 ghost use Rattle.refusals.specs.Answers.{answer};
-ghost use Rattle.streams.specs.Streams.{Stream, moved};
+ghost use Rattle.streams.specs.Streams.{moved, IfShown, Becomes};
 ghost use Rattle.count_ahead.specs.Agreement.{numbers_coming, Longest, tallied, counted};
 
 use refusals::Refusal;
@@ -13,8 +13,8 @@ use streams::int_stream::{EOF, IntStream};
 fn agreeing<S: IntStream>(stream: &mut S, wanted: &[i32]) -> Result<usize, Refusal>
     requires opened { (S.IntStream.status stream.old).opened ≡ true }
     requires marked { 0 < length (S.IntStream.status stream.old).marks }
-    ensures value { (s : Stream) → S.IntStream.shows stream.old s → answer result ≡ tallied s wanted.now }
-    ensures after { (s : Stream) → S.IntStream.shows stream.old s → ((j : ℕ) × S.IntStream.shows stream.new (moved s j)) }
+    ensures value { IfShown S.IntStream.shows stream.old (λ s. answer result ≡ tallied s wanted.now) }
+    ensures after { IfShown S.IntStream.shows stream.old (λ s. (j : ℕ) × S.IntStream.shows stream.new (moved s j)) }
     ensures status { S.IntStream.status stream.new ≡ S.IntStream.status stream.old }
     ensures unaltered { S.IntStream.unaltered stream.old stream.new }
 {
@@ -34,9 +34,9 @@ fn agreeing<S: IntStream>(stream: &mut S, wanted: &[i32]) -> Result<usize, Refus
 
 // How many symbols, from the cursor on and through the EOF, agree with the front of the wanted numbers.
 pub fn count_ahead<S: IntStream>(stream: &mut S, wanted: &[i32]) -> Result<usize, Refusal>
-    ensures value { (s : Stream) → S.IntStream.shows stream.old s → answer result ≡ counted s wanted.now }
-    ensures longest { (s : Stream) → S.IntStream.shows stream.old s → IfOk result (λ n. Longest n (numbers_coming s) wanted.now) }
-    ensures after { (s : Stream) → S.IntStream.shows stream.old s → S.IntStream.shows stream.new s }
+    ensures value { IfShown S.IntStream.shows stream.old (λ s. answer result ≡ counted s wanted.now) }
+    ensures longest { IfShown S.IntStream.shows stream.old (λ s. IfOk result (λ n. Longest n (numbers_coming s) wanted.now)) }
+    ensures after { Becomes S.IntStream.shows stream.old stream.new (λ s. s) }
     ensures status { S.IntStream.status stream.new ≡ S.IntStream.status stream.old }
     ensures unaltered { S.IntStream.unaltered stream.old stream.new }
 {

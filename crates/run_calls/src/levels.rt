@@ -1,7 +1,7 @@
 // The calls of a stream, while marks of it are out.
 ghost use Rattle.std.specs.Prelude.{◌≡◌, ◌<◌, ◌≤◌, true, false, length, IfOk, OnSome};
 ghost use Rattle.streams.specs.Calls.{status_with};
-ghost use Rattle.streams.specs.Marks.{latest, earlier, numbers};
+ghost use Rattle.streams.specs.Marks.{latest, earlier};
 ghost use Rattle.run_calls.specs.Held.{Held, Stays, held_as};
 
 use crate::calls::{Called, Taken};
@@ -13,7 +13,6 @@ use scripts::line::{Call, Line};
 use std::alloc::AllocError;
 use streams::int_stream::IntStream;
 use streams::mark::{Kept, Mark, Marks, Numbering};
-use tokens::token::same;
 
 // What follows a line.
 #[derive(Drop)]
@@ -29,20 +28,7 @@ fn give_back<S: IntStream>(stream: &mut S, mark: Mark)
     requires latest { latest (S.IntStream.status stream.old).marks mark.number ≡ true }
     ensures status { S.IntStream.status stream.new ≡ status_with (S.IntStream.status stream.old) (earlier (S.IntStream.status stream.old).marks) }
 {
-    match stream.release(mark) {
-        Ok(()) => {}
-        Err(_) => unreachable(),
-    }
-}
-
-// Gives a mark back to those that it is the latest of.
-fn give_to(marks: &mut Marks, mark: Mark)
-    requires latest { latest (numbers marks.old.numbering marks.old.out) mark.number ≡ true }
-{
-    match marks.release(mark) {
-        Ok(()) => {}
-        Err(_) => unreachable(),
-    }
+    stream.release(mark).unwrap();
 }
 
 // Hands in a mark of a number that another stream gave. Where it is refused, that one takes it back.
@@ -52,9 +38,8 @@ fn release_other<S: IntStream>(stream: &mut S, number: i32) -> Result<(), Refusa
     let mut other = Marks::new(Numbering::Fixed(number));
     match stream.release(other.mark()?) {
         Ok(()) => Ok(()),
-        Err(kept) => {
-            let Kept { mark, refusal } = kept;
-            give_to(&mut other, mark);
+        Err(Kept { mark, refusal }) => {
+            other.release(mark).unwrap();
             Err(refusal)
         }
     }
@@ -78,10 +63,7 @@ fn ask<S: IntStream>(stream: &mut S, call: Call) -> Option<Answer>
 fn held_as(held: Option<i32>, number: i32) -> bool
     ensures value { result ≡ held_as held number }
 {
-    match held {
-        Some(latest) => same(latest, number),
-        None => false,
-    }
+    held == Some(number)
 }
 
 fn take_call<'a, S: Called>(

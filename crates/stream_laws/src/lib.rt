@@ -3,7 +3,7 @@
 
 ghost use Rattle.std.specs.Prelude.{◌≡◌, ℕ, length, ℤ, pos, negsuc, ◌≤ℤ◌, ◌<ℤ◌, IfOk};
 ghost use Rattle.refusals.specs.Answers.{gives, answer};
-ghost use Rattle.streams.specs.Streams.{Stream, moved, with_marks};
+ghost use Rattle.streams.specs.Streams.{moved, with_marks, IfShown, Becomes};
 ghost use Rattle.streams.specs.Calls.{la, consume, consumed, index_answer, mark_answer, marks_after_mark, status_with};
 ghost use Rattle.stream_laws.specs.Returns.{mark_made};
 
@@ -22,11 +22,11 @@ pub struct Looks {
 
 // What is ahead of a step that is accepted is behind after it.
 pub fn ordered_lookahead<S: IntStream>(stream: &mut S) -> Looks
-    ensures ordered_lookahead { (s : Stream) → S.IntStream.shows stream.old s → (z : ℤ) → answer result.ahead ≡ gives z → answer result.step ≡ gives tt → answer result.behind ≡ gives z }
-    ensures ahead { (s : Stream) → S.IntStream.shows stream.old s → answer result.ahead ≡ la s S.IntStream.nothing (pos 1) }
-    ensures step { (s : Stream) → S.IntStream.shows stream.old s → answer result.step ≡ consume s }
-    ensures behind { (s : Stream) → S.IntStream.shows stream.old s → answer result.behind ≡ la (consumed s) S.IntStream.nothing (negsuc 0) }
-    ensures after { (s : Stream) → S.IntStream.shows stream.old s → S.IntStream.shows stream.new (consumed s) }
+    ensures ordered_lookahead { IfShown S.IntStream.shows stream.old (λ s. (z : ℤ) → answer result.ahead ≡ gives z → answer result.step ≡ gives tt → answer result.behind ≡ gives z) }
+    ensures ahead { IfShown S.IntStream.shows stream.old (λ s. answer result.ahead ≡ la s S.IntStream.nothing (pos 1)) }
+    ensures step { IfShown S.IntStream.shows stream.old (λ s. answer result.step ≡ consume s) }
+    ensures behind { IfShown S.IntStream.shows stream.old (λ s. answer result.behind ≡ la (consumed s) S.IntStream.nothing (negsuc 0)) }
+    ensures after { Becomes S.IntStream.shows stream.old stream.new consumed }
     ensures status { S.IntStream.status stream.new ≡ S.IntStream.status stream.old }
     ensures unaltered { S.IntStream.unaltered stream.old stream.new }
 {
@@ -50,11 +50,11 @@ pub struct Indexes {
 
 // A step that is accepted leads to a greater index.
 pub fn forward_movement<S: IntStream>(stream: &mut S) -> Indexes
-    ensures forward_movement { (s : Stream) → S.IntStream.shows stream.old s → (y : ℤ) → answer result.before ≡ gives y → answer result.step ≡ gives tt → ((z : ℤ) × (answer result.after ≡ gives z) × (y <ℤ z)) }
-    ensures here { (s : Stream) → S.IntStream.shows stream.old s → answer result.before ≡ index_answer s }
-    ensures step { (s : Stream) → S.IntStream.shows stream.old s → answer result.step ≡ consume s }
-    ensures there { (s : Stream) → S.IntStream.shows stream.old s → answer result.after ≡ index_answer (consumed s) }
-    ensures after { (s : Stream) → S.IntStream.shows stream.old s → S.IntStream.shows stream.new (consumed s) }
+    ensures forward_movement { IfShown S.IntStream.shows stream.old (λ s. (y : ℤ) → answer result.before ≡ gives y → answer result.step ≡ gives tt → ((z : ℤ) × (answer result.after ≡ gives z) × (y <ℤ z))) }
+    ensures here { IfShown S.IntStream.shows stream.old (λ s. answer result.before ≡ index_answer s) }
+    ensures step { IfShown S.IntStream.shows stream.old (λ s. answer result.step ≡ consume s) }
+    ensures there { IfShown S.IntStream.shows stream.old (λ s. answer result.after ≡ index_answer (consumed s)) }
+    ensures after { Becomes S.IntStream.shows stream.old stream.new consumed }
     ensures status { S.IntStream.status stream.new ≡ S.IntStream.status stream.old }
     ensures unaltered { S.IntStream.unaltered stream.old stream.new }
 {
@@ -77,10 +77,10 @@ pub struct Ends {
 
 // Where a look ahead meets the EOF, so does every look further on.
 pub fn end_stays<S: IntStream>(stream: &mut S, near: i32, far: i32) -> Ends
-    ensures end_stays { (s : Stream) → S.IntStream.shows stream.old s → pos 1 ≤ℤ near → near ≤ℤ far → answer result.near ≡ gives (negsuc 0) → answer result.far ≡ gives (negsuc 0) }
-    ensures near { (s : Stream) → S.IntStream.shows stream.old s → answer result.near ≡ la s S.IntStream.nothing near }
-    ensures far { (s : Stream) → S.IntStream.shows stream.old s → answer result.far ≡ la s S.IntStream.nothing far }
-    ensures after { (s : Stream) → S.IntStream.shows stream.old s → S.IntStream.shows stream.new s }
+    ensures end_stays { IfShown S.IntStream.shows stream.old (λ s. pos 1 ≤ℤ near → near ≤ℤ far → answer result.near ≡ gives (negsuc 0) → answer result.far ≡ gives (negsuc 0)) }
+    ensures near { IfShown S.IntStream.shows stream.old (λ s. answer result.near ≡ la s S.IntStream.nothing near) }
+    ensures far { IfShown S.IntStream.shows stream.old (λ s. answer result.far ≡ la s S.IntStream.nothing far) }
+    ensures after { Becomes S.IntStream.shows stream.old stream.new (λ s. s) }
     ensures status { S.IntStream.status stream.new ≡ S.IntStream.status stream.old }
     ensures unaltered { S.IntStream.unaltered stream.old stream.new }
 {
@@ -91,7 +91,7 @@ pub fn end_stays<S: IntStream>(stream: &mut S, near: i32, far: i32) -> Ends
 
 // Goes anywhere.
 fn wander<S: IntStream>(stream: &mut S, steps: usize, to: i32)
-    ensures after { (s : Stream) → S.IntStream.shows stream.old s → ((j : ℕ) × S.IntStream.shows stream.new (moved s j)) }
+    ensures after { IfShown S.IntStream.shows stream.old (λ s. (j : ℕ) × S.IntStream.shows stream.new (moved s j)) }
     ensures status { S.IntStream.status stream.new ≡ S.IntStream.status stream.old }
     ensures unaltered { S.IntStream.unaltered stream.old stream.new }
 {
@@ -113,10 +113,10 @@ pub fn seek_back_restores<S: IntStream>(
     steps: usize,
     to: i32,
 ) -> Result<Return, Refusal>
-    ensures seek_back_restores { (s : Stream) → S.IntStream.shows stream.old s → S.IntStream.shows stream.new (with_marks s (S.IntStream.status stream.new).marks) }
-    ensures accepted { (s : Stream) → S.IntStream.shows stream.old s → IfOk result (λ q. answer q.back ≡ gives tt) }
-    ensures value { (s : Stream) → S.IntStream.shows stream.old s → mark_made result ≡ mark_answer (S.IntStream.status stream.old) (S.IntStream.numbered (length (S.IntStream.status stream.old).marks)) }
-    ensures status { (s : Stream) → S.IntStream.shows stream.old s → S.IntStream.status stream.new ≡ status_with (S.IntStream.status stream.old) (marks_after_mark (S.IntStream.status stream.old) (S.IntStream.numbered (length (S.IntStream.status stream.old).marks))) }
+    ensures seek_back_restores { Becomes S.IntStream.shows stream.old stream.new (λ s. with_marks s (S.IntStream.status stream.new).marks) }
+    ensures accepted { IfShown S.IntStream.shows stream.old (λ s. IfOk result (λ q. answer q.back ≡ gives tt)) }
+    ensures value { IfShown S.IntStream.shows stream.old (λ s. mark_made result ≡ mark_answer (S.IntStream.status stream.old) (S.IntStream.numbered (length (S.IntStream.status stream.old).marks))) }
+    ensures status { IfShown S.IntStream.shows stream.old (λ s. S.IntStream.status stream.new ≡ status_with (S.IntStream.status stream.old) (marks_after_mark (S.IntStream.status stream.old) (S.IntStream.numbered (length (S.IntStream.status stream.old).marks)))) }
     ensures unaltered { S.IntStream.unaltered stream.old stream.new }
 {
     let here = stream.index()?;

@@ -105,3 +105,11 @@ pub record Lawful (s : Stream) : Type 0 where
   pub above_floor : s.floor ≤ (ahead s 0).index
   pub at_rest : (settled s).floor ≡ s.floor
   pub below_reach : s.status.opened ≡ true → beyond s (ahead s 0).index ≡ false
+
+-- what is true of everything that a value shows: more than one stream can be shown, where dropped symbols are forgotten
+abbrev pub IfShown : {X M : Type 0} → (X → M → Type 0) → X → (M → Type 0) → Type 0
+IfShown {M = M} shows x says = (m : M) → shows x m → says m
+
+-- everything that was shown has become another, which is shown now
+abbrev pub Becomes : {X M : Type 0} → (X → M → Type 0) → X → X → (M → M) → Type 0
+Becomes shows x y next = IfShown shows x (λ m. shows y (next m))

@@ -1,7 +1,7 @@
 // A stream of symbols: look ahead and back, step, go to an index, and keep a place by a mark.
 ghost use Rattle.std.specs.Prelude.{◌≡◌, ℕ, length, ℤ, pos};
 ghost use Rattle.refusals.specs.Answers.{answer};
-ghost use Rattle.streams.specs.Streams.{Status, Stream, Lawful, with_marks};
+ghost use Rattle.streams.specs.Streams.{Status, Stream, Lawful, with_marks, IfShown, Becomes};
 ghost use Rattle.streams.specs.Calls.{la, consume, consumed, seek, sought_out, index_answer, size_answer, mark_answer, marks_after_mark, release_answer, marks_after_release, status_with};
 ghost use Rattle.streams.specs.Marks.{made, released, HandedBack};
 
@@ -42,28 +42,28 @@ pub trait IntStream: Sized {
 
     // The k-th symbol from the cursor on, or the -k-th before it.
     fn la(&mut self, k: i32) -> Result<i32, Refusal>
-        ensures value { (s : Stream) → shows self.old s → answer result ≡ la s nothing k }
-        ensures after { (s : Stream) → shows self.old s → shows self.new s }
+        ensures value { IfShown shows self.old (λ s. answer result ≡ la s nothing k) }
+        ensures after { Becomes shows self.old self.new (λ s. s) }
         ensures status { status self.new ≡ status self.old }
         ensures unaltered { unaltered self.old self.new };
 
     // To the next symbol.
     fn consume(&mut self) -> Result<(), Refusal>
-        ensures value { (s : Stream) → shows self.old s → answer result ≡ consume s }
-        ensures after { (s : Stream) → shows self.old s → shows self.new (consumed s) }
+        ensures value { IfShown shows self.old (λ s. answer result ≡ consume s) }
+        ensures after { Becomes shows self.old self.new consumed }
         ensures status { status self.new ≡ status self.old }
         ensures unaltered { unaltered self.old self.new };
 
     // To the first symbol at or after an index, or to the EOF.
     fn seek(&mut self, index: i32) -> Result<(), Refusal>
-        ensures value { (s : Stream) → shows self.old s → answer result ≡ seek s index }
-        ensures after { (s : Stream) → shows self.old s → shows self.new (sought_out s index) }
+        ensures value { IfShown shows self.old (λ s. answer result ≡ seek s index) }
+        ensures after { Becomes shows self.old self.new (λ s. sought_out s index) }
         ensures status { status self.new ≡ status self.old }
         ensures unaltered { unaltered self.old self.new };
 
     // The index of the symbol under the cursor.
     fn index(&self) -> Result<i32, Refusal>
-        ensures value { (s : Stream) → shows self.now s → answer result ≡ index_answer s };
+        ensures value { IfShown shows self.now (λ s. answer result ≡ index_answer s) };
 
     // How many symbols there are, as this kind of stream counts them.
     fn size(&self) -> Result<i32, Refusal>
@@ -72,7 +72,7 @@ pub trait IntStream: Sized {
     // Keeps what is held from here on.
     fn mark(&mut self) -> Result<Mark, Refusal>
         ensures value { made result ≡ mark_answer (status self.old) (numbered (length (status self.old).marks)) }
-        ensures after { (s : Stream) → shows self.old s → shows self.new (with_marks s (status self.new).marks) }
+        ensures after { Becomes shows self.old self.new (λ s. with_marks s (status self.new).marks) }
         ensures status { status self.new ≡ status_with (status self.old) (marks_after_mark (status self.old) (numbered (length (status self.old).marks))) }
         ensures unaltered { unaltered self.old self.new };
 
@@ -80,7 +80,7 @@ pub trait IntStream: Sized {
     fn release(&mut self, mark: Mark) -> Result<(), Kept>
         ensures value { released result ≡ release_answer (status self.old) mark.number }
         ensures back { HandedBack mark.number result }
-        ensures after { (s : Stream) → shows self.old s → shows self.new (with_marks s (status self.new).marks) }
+        ensures after { Becomes shows self.old self.new (λ s. with_marks s (status self.new).marks) }
         ensures status { status self.new ≡ status_with (status self.old) (marks_after_release (status self.old) mark.number) }
         ensures unaltered { unaltered self.old self.new };
 }

@@ -33,11 +33,3 @@ pub record Together (u : Unbuffered) (v : View) (coming : List Token) (text : To
 
 abbrev pub Shows : {S : Type 0} → Ghosts S → UnbufferedTokenStream S → Unbuffered → Type 0
 Shows source x u = Together u (view x.buffer.window) (source.coming x.buffer.source) (source.text x.buffer.source) x.cursor x.before (status_of x)
-
--- what is true of every stream that is shown: more than one can be, since dropped tokens are forgotten
-abbrev pub IfShown : {S : Type 0} → Ghosts S → UnbufferedTokenStream S → (Unbuffered → Type 0) → Type 0
-IfShown source x says = (u : Unbuffered) → Shows source x u → says u
-
--- every stream that was shown has become another, which is shown now
-abbrev pub Becomes : {S : Type 0} → Ghosts S → UnbufferedTokenStream S → UnbufferedTokenStream S → (Unbuffered → Unbuffered) → Type 0
-Becomes source x y next = IfShown source x (λ u. Shows source y (next u))

@@ -1,6 +1,6 @@
 // The symbols that a parser works on.
 ghost use Rattle.std.specs.Prelude.{◌≡◌};
-ghost use Rattle.tokens.specs.Tokens.{same, is_eof, with_index};
+ghost use Rattle.tokens.specs.Tokens.{is_eof, with_index};
 
 // The type of the EOF, as the interface numbers it.
 pub const TOKEN_EOF: i32 = -1;
@@ -36,11 +36,4 @@ impl Token {
     {
         self.index = index;
     }
-}
-
-// Whether two numbers are equal, in the words of the statements.
-pub fn same(a: i32, b: i32) -> bool
-    ensures value { result ≡ same a b }
-{
-    a == b
 }

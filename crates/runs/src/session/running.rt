@@ -6,6 +6,7 @@ ghost use Rattle.streams.specs.Marks.{numbers, latest};
 ghost use Rattle.streams.specs.Calls.{mark_answer, release_answer};
 ghost use Rattle.token_streams.specs.Calls.{after_mark, after_release};
 ghost use Rattle.token_streams.specs.Unbuffered.{Unbuffered, unopened};
+ghost use Rattle.streams.specs.Streams.{IfShown, Becomes};
 ghost use Rattle.token_streams.specs.Shown.{Shows, status_of};
 ghost use Rattle.runs.specs.Replies.{reply_of};
 ghost use Rattle.runs.specs.Runs.{replied, after, left_by, replies, after_all, left_by_all, run_answer, calls_made};
@@ -42,7 +43,7 @@ impl<S: TokenSource> Session<S> {
     // Makes a mark, and keeps it.
     fn mark(&mut self) -> Result<i32, Refusal>
         ensures value { answer result ≡ mark_answer (status_of self.old.stream) (negsuc (length (status_of self.old.stream).marks)) }
-        ensures after { (u : Unbuffered) → Shows S.TokenSource self.old.stream u → Shows S.TokenSource self.new.stream (after_mark u (negsuc (length (status_of self.old.stream).marks))) }
+        ensures after { Becomes (Shows S.TokenSource) self.old.stream self.new.stream (λ u. after_mark u (negsuc (length (status_of self.old.stream).marks))) }
     {
         let mark = self.stream.mark()?;
         let number = mark.number();
@@ -54,7 +55,7 @@ impl<S: TokenSource> Session<S> {
     // goes to the stranger in its place.
     fn release(&mut self, number: i32) -> Result<(), Refusal>
         ensures value { answer result ≡ release_answer (status_of self.old.stream) number }
-        ensures after { (u : Unbuffered) → Shows S.TokenSource self.old.stream u → Shows S.TokenSource self.new.stream (after_release u number) }
+        ensures after { Becomes (Shows S.TokenSource) self.old.stream self.new.stream (λ u. after_release u number) }
     {
         let (mut stranger, mark) = stranger(number);
         match self.stream.release(mark) {
@@ -72,9 +73,9 @@ impl<S: TokenSource> Session<S> {
 
     // Makes a call.
     pub fn call(&mut self, call: Call, out: &mut [u8]) -> Result<Reply, Refusal>
-        ensures value { (u : Unbuffered) → Shows S.TokenSource self.old.stream u → reply_of result ≡ replied u out.old call }
-        ensures after { (u : Unbuffered) → Shows S.TokenSource self.old.stream u → Shows S.TokenSource self.new.stream (after u call) }
-        ensures output { (u : Unbuffered) → Shows S.TokenSource self.old.stream u → out.new ≡ left_by u out.old call }
+        ensures value { IfShown (Shows S.TokenSource) self.old.stream (λ u. reply_of result ≡ replied u out.old call) }
+        ensures after { Becomes (Shows S.TokenSource) self.old.stream self.new.stream (λ u. after u call) }
+        ensures output { IfShown (Shows S.TokenSource) self.old.stream (λ u. out.new ≡ left_by u out.old call) }
     {
         match call {
             Call::Open(capacity) => self.stream.open(capacity).map(|()| Reply::Done),
@@ -105,10 +106,10 @@ impl<S: TokenSource> Session<S> {
         answers: &mut [Result<Reply, Refusal>],
     ) -> Result<usize, Refusal>
         ensures value { answer result ≡ run_answer calls.now answers.old }
-        ensures replies { (u : Unbuffered) → Shows S.TokenSource self.old.stream u → map reply_of answers.new ≡ overwritten (replies u out.old calls.now) (map reply_of answers.old) }
-        ensures after { (u : Unbuffered) → Shows S.TokenSource self.old.stream u → Shows S.TokenSource self.new.stream (after_all u (calls_made calls.now answers.old)) }
-        ensures output { (u : Unbuffered) → Shows S.TokenSource self.old.stream u → out.new ≡ left_by_all u out.old (calls_made calls.now answers.old) }
-        ensures shows_the_list { (u : Unbuffered) → Shows S.TokenSource self.old.stream u → ShowsTheList u out.old (calls_made calls.now answers.old) }
+        ensures replies { IfShown (Shows S.TokenSource) self.old.stream (λ u. map reply_of answers.new ≡ overwritten (replies u out.old calls.now) (map reply_of answers.old)) }
+        ensures after { Becomes (Shows S.TokenSource) self.old.stream self.new.stream (λ u. after_all u (calls_made calls.now answers.old)) }
+        ensures output { IfShown (Shows S.TokenSource) self.old.stream (λ u. out.new ≡ left_by_all u out.old (calls_made calls.now answers.old)) }
+        ensures shows_the_list { IfShown (Shows S.TokenSource) self.old.stream (λ u. ShowsTheList u out.old (calls_made calls.now answers.old)) }
     {
         if answers.len() < calls.len() {
             return Err(Refusal::ShortOutput);
@@ -121,7 +122,7 @@ impl<S: TokenSource> Session<S> {
 
     // Gives the source back, with what was not pulled. The marks come back first.
     pub fn close(self) -> S
-        ensures source { (u : Unbuffered) → Shows S.TokenSource self.stream u → GivenBack u (S.TokenSource.coming result) (S.TokenSource.text result) }
+        ensures source { IfShown (Shows S.TokenSource) self.stream (λ u. GivenBack u (S.TokenSource.coming result) (S.TokenSource.text result)) }
     {
         let Session {
             mut stream,

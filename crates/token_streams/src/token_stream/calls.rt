@@ -8,7 +8,8 @@ ghost use Rattle.windows.specs.Windows.{view};
 ghost use Rattle.token_streams.specs.Unbuffered.{clamped, needed, unopened};
 ghost use Rattle.token_streams.specs.Calls.{open_answer, after_open, behind, ahead, lt, after_lt, type_of, la, consume, after_consume, sought, after_sought, seek, after_seek, index_of, size_of, after_mark, after_release, get, text, text_left};
 ghost use Rattle.token_streams.specs.Settled.{settled_view, settled_before};
-ghost use Rattle.token_streams.specs.Shown.{Shows, IfShown, Becomes, status_of};
+ghost use Rattle.streams.specs.Streams.{IfShown, Becomes};
+ghost use Rattle.token_streams.specs.Shown.{Shows, status_of};
 
 use crate::token_stream::UnbufferedTokenStream;
 use refusals::Refusal;
@@ -44,8 +45,8 @@ impl<S: TokenSource> UnbufferedTokenStream<S> {
 
     // Opens the stream with so many places for tokens. Nothing is pulled yet.
     pub fn open(&mut self, capacity: i32) -> Result<(), Refusal>
-        ensures value { IfShown S.TokenSource self.old (λ u. answer result ≡ open_answer u capacity) }
-        ensures after { Becomes S.TokenSource self.old self.new (λ u. after_open u capacity) }
+        ensures value { IfShown (Shows S.TokenSource) self.old (λ u. answer result ≡ open_answer u capacity) }
+        ensures after { Becomes (Shows S.TokenSource) self.old self.new (λ u. after_open u capacity) }
         ensures marks { (status_of self.new).marks ≡ (status_of self.old).marks }
         ensures stays { (status_of self.old).opened ≡ true → status_of self.new ≡ status_of self.old }
     {
@@ -71,7 +72,7 @@ impl<S: TokenSource> UnbufferedTokenStream<S> {
     // The k-th token before the cursor, counted from 1.
     fn behind(&self, k: usize) -> Result<Option<Token>, Refusal>
         requires some { 1 ≤ k }
-        ensures value { IfShown S.TokenSource self.now (λ u. answer result ≡ behind u k) }
+        ensures value { IfShown (Shows S.TokenSource) self.now (λ u. answer result ≡ behind u k) }
     {
         let Some(index) = self.cursor.checked_sub(k) else {
             return Ok(None);
@@ -89,8 +90,8 @@ impl<S: TokenSource> UnbufferedTokenStream<S> {
     fn ahead(&mut self, k: usize) -> Result<Option<Token>, Refusal>
         requires few { k ≤ 2147483647 }
         requires is_open { self.old.«open» ≡ true }
-        ensures value { IfShown S.TokenSource self.old (λ u. answer result ≡ ahead u k) }
-        ensures after { Becomes S.TokenSource self.old self.new (λ u. needed u (clamped u (u.cursor + k))) }
+        ensures value { IfShown (Shows S.TokenSource) self.old (λ u. answer result ≡ ahead u k) }
+        ensures after { Becomes (Shows S.TokenSource) self.old self.new (λ u. needed u (clamped u (u.cursor + k))) }
         ensures status { status_of self.new ≡ status_of self.old }
     {
         let at = self.buffer.see(self.cursor + k).ok_or(Refusal::WindowFull)?;
@@ -99,8 +100,8 @@ impl<S: TokenSource> UnbufferedTokenStream<S> {
 
     // The k-th token from the cursor on, or the EOF where fewer remain; for k below 0 the -k-th before it, if there is one.
     pub fn lt(&mut self, k: i32) -> Result<Option<Token>, Refusal>
-        ensures value { IfShown S.TokenSource self.old (λ u. answer result ≡ lt u k) }
-        ensures after { Becomes S.TokenSource self.old self.new (λ u. after_lt u k) }
+        ensures value { IfShown (Shows S.TokenSource) self.old (λ u. answer result ≡ lt u k) }
+        ensures after { Becomes (Shows S.TokenSource) self.old self.new (λ u. after_lt u k) }
         ensures status { status_of self.new ≡ status_of self.old }
     {
         self.opened()?;
@@ -113,8 +114,8 @@ impl<S: TokenSource> UnbufferedTokenStream<S> {
 
     // The type of the token that `lt` gives.
     pub fn la(&mut self, k: i32) -> Result<i32, Refusal>
-        ensures value { IfShown S.TokenSource self.old (λ u. answer result ≡ la u k) }
-        ensures after { Becomes S.TokenSource self.old self.new (λ u. after_lt u k) }
+        ensures value { IfShown (Shows S.TokenSource) self.old (λ u. answer result ≡ la u k) }
+        ensures after { Becomes (Shows S.TokenSource) self.old self.new (λ u. after_lt u k) }
         ensures status { status_of self.new ≡ status_of self.old }
     {
         Ok(type_of(self.lt(k)?))
@@ -138,8 +139,8 @@ impl<S: TokenSource> UnbufferedTokenStream<S> {
 
     // To the next token.
     pub fn consume(&mut self) -> Result<(), Refusal>
-        ensures value { IfShown S.TokenSource self.old (λ u. answer result ≡ consume u) }
-        ensures after { Becomes S.TokenSource self.old self.new (λ u. after_consume u) }
+        ensures value { IfShown (Shows S.TokenSource) self.old (λ u. answer result ≡ consume u) }
+        ensures after { Becomes (Shows S.TokenSource) self.old self.new after_consume }
         ensures status { status_of self.new ≡ status_of self.old }
     {
         self.opened()?;
@@ -156,8 +157,8 @@ impl<S: TokenSource> UnbufferedTokenStream<S> {
     // To the token of an index, or to the EOF where the list is shorter.
     fn go_to(&mut self, index: usize) -> Result<(), Refusal>
         requires is_open { self.old.«open» ≡ true }
-        ensures value { IfShown S.TokenSource self.old (λ u. answer result ≡ sought u index) }
-        ensures after { Becomes S.TokenSource self.old self.new (λ u. after_sought u index) }
+        ensures value { IfShown (Shows S.TokenSource) self.old (λ u. answer result ≡ sought u index) }
+        ensures after { Becomes (Shows S.TokenSource) self.old self.new (λ u. after_sought u index) }
         ensures status { status_of self.new ≡ status_of self.old }
     {
         if index < self.buffer.window.start() {
@@ -171,8 +172,8 @@ impl<S: TokenSource> UnbufferedTokenStream<S> {
 
     // The same for any number.
     pub fn seek(&mut self, index: i32) -> Result<(), Refusal>
-        ensures value { IfShown S.TokenSource self.old (λ u. answer result ≡ seek u index) }
-        ensures after { Becomes S.TokenSource self.old self.new (λ u. after_seek u index) }
+        ensures value { IfShown (Shows S.TokenSource) self.old (λ u. answer result ≡ seek u index) }
+        ensures after { Becomes (Shows S.TokenSource) self.old self.new (λ u. after_seek u index) }
         ensures status { status_of self.new ≡ status_of self.old }
     {
         self.opened()?;
@@ -182,7 +183,7 @@ impl<S: TokenSource> UnbufferedTokenStream<S> {
 
     // The index of the token under the cursor.
     pub fn index(&self) -> Result<i32, Refusal>
-        ensures value { IfShown S.TokenSource self.now (λ u. answer result ≡ index_of u) }
+        ensures value { IfShown (Shows S.TokenSource) self.now (λ u. answer result ≡ index_of u) }
     {
         self.opened()?;
         Ok(self.cursor as i32)
@@ -190,7 +191,7 @@ impl<S: TokenSource> UnbufferedTokenStream<S> {
 
     // How many tokens are held from the floor on.
     pub fn size(&self) -> Result<i32, Refusal>
-        ensures value { IfShown S.TokenSource self.now (λ u. answer result ≡ size_of u) }
+        ensures value { IfShown (Shows S.TokenSource) self.now (λ u. answer result ≡ size_of u) }
         ensures held { answer result ≡ size_answer (status_of self.now) (length (view self.now.buffer.window).tokens) }
     {
         self.opened()?;
@@ -200,7 +201,7 @@ impl<S: TokenSource> UnbufferedTokenStream<S> {
     // Keeps the tokens from the cursor on, until the mark comes back.
     pub fn mark(&mut self) -> Result<Mark, Refusal>
         ensures value { made result ≡ mark_answer (status_of self.old) (negsuc (length (status_of self.old).marks)) }
-        ensures after { Becomes S.TokenSource self.old self.new (λ u. after_mark u (negsuc (length (status_of self.old).marks))) }
+        ensures after { Becomes (Shows S.TokenSource) self.old self.new (λ u. after_mark u (negsuc (length (status_of self.old).marks))) }
         ensures status { status_of self.new ≡ status_with (status_of self.old) (marks_after_mark (status_of self.old) (negsuc (length (status_of self.old).marks))) }
     {
         self.opened()?;
@@ -211,7 +212,7 @@ impl<S: TokenSource> UnbufferedTokenStream<S> {
     pub fn release(&mut self, mark: Mark) -> Result<(), Kept>
         ensures value { released result ≡ release_answer (status_of self.old) mark.number }
         ensures back { HandedBack mark.number result }
-        ensures after { Becomes S.TokenSource self.old self.new (λ u. after_release u mark.number) }
+        ensures after { Becomes (Shows S.TokenSource) self.old self.new (λ u. after_release u mark.number) }
         ensures status { status_of self.new ≡ status_with (status_of self.old) (marks_after_release (status_of self.old) mark.number) }
     {
         if let Err(refusal) = self.opened() {
@@ -224,7 +225,7 @@ impl<S: TokenSource> UnbufferedTokenStream<S> {
 
     // The token of an index that is held.
     pub fn get(&self, index: i32) -> Result<Token, Refusal>
-        ensures value { IfShown S.TokenSource self.now (λ u. answer result ≡ get u index) }
+        ensures value { IfShown (Shows S.TokenSource) self.now (λ u. answer result ≡ get u index) }
     {
         self.opened()?;
         self.buffer.get(index)
@@ -237,8 +238,8 @@ impl<S: TokenSource> UnbufferedTokenStream<S> {
         stop: i32,
         out: &mut [u8],
     ) -> Result<usize, Refusal>
-        ensures value { IfShown S.TokenSource self.now (λ u. answer result ≡ text u start stop out.old) }
-        ensures after { IfShown S.TokenSource self.now (λ u. out.new ≡ text_left u start stop out.old) }
+        ensures value { IfShown (Shows S.TokenSource) self.now (λ u. answer result ≡ text u start stop out.old) }
+        ensures after { IfShown (Shows S.TokenSource) self.now (λ u. out.new ≡ text_left u start stop out.old) }
     {
         self.opened()?;
         self.buffer.text(start, stop, out)
@@ -251,8 +252,8 @@ impl<S: TokenSource> UnbufferedTokenStream<S> {
         last: &Token,
         out: &mut [u8],
     ) -> Result<usize, Refusal>
-        ensures value { IfShown S.TokenSource self.now (λ u. answer result ≡ text u first.now.index last.now.index out.old) }
-        ensures after { IfShown S.TokenSource self.now (λ u. out.new ≡ text_left u first.now.index last.now.index out.old) }
+        ensures value { IfShown (Shows S.TokenSource) self.now (λ u. answer result ≡ text u first.now.index last.now.index out.old) }
+        ensures after { IfShown (Shows S.TokenSource) self.now (λ u. out.new ≡ text_left u first.now.index last.now.index out.old) }
     {
         self.get_text_from_interval(first.index, last.index, out)
     }
