@@ -30,11 +30,12 @@ impl fmt::Display for Place {
     ghost output = { λ p. Some (place_text p.0) };
 
     fn fmt<W: fmt::Write>(&self, f: &mut fmt::Formatter<W>) -> fmt::Result {
-        let start = self.0.start;
-        let stop = self.0.stop;
-        let line = self.0.line;
-        let column = self.0.column;
-        write!(f, "{start} {stop} {line} {column}")
+        let Place(token) = self;
+        write!(
+            f,
+            "{} {} {} {}",
+            token.start, token.stop, token.line, token.column
+        )
     }
 }
 
@@ -46,11 +47,15 @@ impl fmt::Display for Numbers {
     ghost output = { λ n. Some (token_text n.0) };
 
     fn fmt<W: fmt::Write>(&self, f: &mut fmt::Formatter<W>) -> fmt::Result {
-        let index = self.0.index;
-        let token_type = self.0.token_type;
-        let channel = self.0.channel;
-        let place = Place(self.0);
-        write!(f, "{index} {token_type} {channel} {place}")
+        let Numbers(token) = self;
+        write!(
+            f,
+            "{} {} {} {}",
+            token.index,
+            token.token_type,
+            token.channel,
+            Place(*token)
+        )
     }
 }
 
@@ -110,7 +115,7 @@ pub fn push_echo(out: &mut Vec<u8>, line: &[u8]) -> Result<(), AllocError>
     }
 }
 
-// The text of an answer.
+// The text of an answer. It is a text of its own, since `write!` onto bytes answers another error than one of memory.
 fn answer_text(heap: Global, answer: Answer) -> Result<String, AllocError>
     ensures made { IfOk result (λ s. string_bytes s ≡ answer_text answer) }
 {

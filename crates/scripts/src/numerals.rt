@@ -77,7 +77,8 @@ pub fn numerals<T: Numeral>(heap: Global, line: &[u8]) -> Result<Option<Vec<T>>,
     Ok(Some(found))
 }
 
-// The first byte that is no space, and what follows it.
+// The first byte that is no space, and what follows it: two are taken at a time, which a `for` over a `filter` could not do
+// without a digit held back.
 fn front_dark(text: &[u8]) -> Option<(u8, &[u8])>
     ensures cases { MatchOption result (filter dark text.now ≡ []) (λ p. filter dark text.now ≡ p.0 ∷ filter dark p.1.now) }
     ensures shorter { IfSome result (λ p. length p.1.now < length text.now) }
