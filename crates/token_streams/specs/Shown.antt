@@ -4,7 +4,7 @@ use Rattle.tokens.specs.declared.token.Token.{Token}
 use Rattle.tokens.specs.declared.token_source.TokenSource.{Ghosts}
 use Rattle.streams.specs.Streams.{Status}
 use Rattle.streams.specs.Marks.{numbers}
-use Rattle.windows.specs.Windows.{View, view, end}
+use Rattle.windows.specs.Windows.{View, end}
 use Rattle.windows.specs.Held.{Holds}
 use Rattle.token_streams.specs.declared.token_stream.UnbufferedTokenStream.{UnbufferedTokenStream}
 use Rattle.token_streams.specs.Unbuffered.{Unbuffered, token_at, reach}
@@ -32,4 +32,4 @@ pub record Together (u : Unbuffered) (v : View) (coming : List Token) (text : To
   pub token_before : 0 < u.floor → before ≡ Some (token_at u (u.floor - 1))
 
 abbrev pub Shows : {S : Type 0} → Ghosts S → UnbufferedTokenStream S → Unbuffered → Type 0
-Shows source x u = Together u (view x.buffer.window) (source.coming x.buffer.source) (source.text x.buffer.source) x.cursor x.before (status_of x)
+Shows source x u = Together u x.buffer.window (source.coming x.buffer.source) (source.text x.buffer.source) x.cursor x.before (status_of x)

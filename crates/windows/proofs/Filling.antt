@@ -1,5 +1,5 @@
 -- Pulling, one token after the other, until the token of an index is held. Assumes nothing.
-use Rattle.std.proofs.Common.{◌≡◌, ℕ, suc, ◌+◌, ◌-◌, ◌<◌, ◌≤◌, min, true, false, cond, ltb, leb, List, length, IfSome, Some, None, sym, refl, ap, ◌∙◌, subst, ⊎_elim, arith}
+use Rattle.std.proofs.Common.{◌≡◌, ℕ, suc, ◌+◌, ◌-◌, ◌<◌, ◌≤◌, min, true, false, cond, ltb, leb, List, length, IfSome, Some, None, sym, ap, ◌∙◌, subst, ⊎_elim, arith}
 use Rattle.std.proofs.lemmas.Bool.{and_parts, and_cases, not-true, not-false, leb-true, leb-false, ltb-true, ltb-false, lt-leb, or_from, lt-ltb, le-ltb, cond-true, cond-false, cond_both, cases_lt, cases_Bool, false≢true}
 use Rattle.tokens.specs.declared.token.Token.{Token}
 use Rattle.windows.specs.Windows.{View, end, reach, full}
@@ -13,9 +13,6 @@ pub record Filling (first : View) (coming : List Token) (index : ℕ) (v : View)
   pub grows : end first ≤ end v
   pub holds : (list : List Token) → Holds list first coming → Holds list v left
   pub bounded : (list : List Token) → Holds list first coming → end v ≤ pulled_to (length list) first index
-
-pub filling_none : (v : View) (coming : List Token) (index : ℕ) → Filling v coming index v coming
-filling_none v coming index = record { start = refl; capacity = refl; grows = omega arith; holds = λ list h. h; bounded = λ list h. omega arith }
 
 -- what a pull that is wanted finds
 pub record Wanted (v : View) (index : ℕ) : Type 0 where

@@ -1,4 +1,5 @@
 pub mod Lists
 pub mod Windows
+pub mod Places
 pub mod Held
 pub mod Reads

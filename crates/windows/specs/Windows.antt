@@ -4,7 +4,6 @@ use Rattle.std.specs.List.{slice_get, range_with_len}
 use Rattle.refusals.specs.Answers.{Answer, gives, unless, if_given}
 use Rattle.characters.specs.Signed.{upward}
 use Rattle.tokens.specs.declared.token.Token.{Token}
-use Rattle.windows.specs.declared.window.Window.{Window}
 use Rattle.windows.specs.Lists.{stamped, blank}
 
 -- the tokens that are held, the index of the first, and how many places are admitted
@@ -16,9 +15,6 @@ pub record View : Type 0 where
 -- the token of an index stands in the place of its remainder by the number of places
 abbrev pub ring : List Token → ℕ → ℕ → List Token
 ring places start n = map (λ i. slice_index_or places (i % 2048) blank) (range_with_len start n)
-
-abbrev pub view : Window → View
-view w = record { start = w.start; tokens = ring w.places w.start (w.end - w.start); capacity = w.capacity }
 
 -- the index after the last token
 abbrev pub end : View → ℕ

@@ -1,6 +1,5 @@
 // A window has places for tokens, and holds those of a row of indexes.
-ghost use Rattle.std.specs.Prelude.{◌≡◌, ◌+◌, ◌≤◌, length};
-
+use std::marker::Model;
 use tokens::token::Token;
 
 pub mod ring;
@@ -13,9 +12,17 @@ pub struct Window {
     capacity: usize,
     start: usize,
     end: usize,
-    ghost whole: { length places ≡ 2048 },
-    ghost admitted: { capacity ≤ 2048 },
-    ghost ordered: { start ≤ end },
-    ghost fits: { end ≤ start + 2048 },
-    ghost few: { end ≤ 1048576 },
+}
+
+// Clauses see the tokens that are held.
+impl Model for Window {
+    ghost use Rattle.windows.specs.Windows.{View};
+
+    ghost Value = { View };
+
+    ghost use Rattle.windows.specs.Places.{view_of, Kept};
+
+    ghost view = { view_of };
+
+    ghost invariant = { Kept };
 }

@@ -4,7 +4,6 @@ ghost use Rattle.refusals.specs.declared.Refusal.TheVariants.{NotOpen};
 ghost use Rattle.refusals.specs.Answers.{answer};
 ghost use Rattle.streams.specs.Calls.{size_answer, mark_answer, marks_after_mark, release_answer, marks_after_release, status_with};
 ghost use Rattle.streams.specs.Marks.{made, released, HandedBack};
-ghost use Rattle.windows.specs.Windows.{view};
 ghost use Rattle.token_streams.specs.Unbuffered.{clamped, needed, unopened};
 ghost use Rattle.token_streams.specs.Calls.{open_answer, after_open, behind, ahead, lt, after_lt, type_of, la, consume, after_consume, sought, after_sought, seek, after_seek, index_of, size_of, after_mark, after_release, get, text, text_left};
 ghost use Rattle.token_streams.specs.Settled.{settled_view, settled_before};
@@ -123,9 +122,9 @@ impl<S: TokenSource> UnbufferedTokenStream<S> {
 
     // With no mark out, the floor comes to the cursor: of the tokens below, only the nearest is kept.
     fn settle(&mut self)
-        ensures window { view self.new.buffer.window ≡ settled_view (self.old.marks.out == 0) (view self.old.buffer.window) self.old.cursor }
+        ensures window { self.new.buffer.window ≡ settled_view (self.old.marks.out == 0) self.old.buffer.window self.old.cursor }
         ensures source { self.new.buffer.source ≡ self.old.buffer.source }
-        ensures before { self.new.before ≡ settled_before (self.old.marks.out == 0) (view self.old.buffer.window) self.old.cursor self.old.before }
+        ensures before { self.new.before ≡ settled_before (self.old.marks.out == 0) self.old.buffer.window self.old.cursor self.old.before }
         ensures cursor { self.new.cursor ≡ self.old.cursor }
         ensures status { status_of self.new ≡ status_of self.old }
     {
@@ -192,7 +191,7 @@ impl<S: TokenSource> UnbufferedTokenStream<S> {
     // How many tokens are held from the floor on.
     pub fn size(&self) -> Result<i32, Refusal>
         ensures value { IfShown (Shows S.TokenSource) self.now (λ u. answer result ≡ size_of u) }
-        ensures held { answer result ≡ size_answer (status_of self.now) (length (view self.now.buffer.window).tokens) }
+        ensures held { answer result ≡ size_answer (status_of self.now) (length self.now.buffer.window.tokens) }
     {
         self.opened()?;
         Ok((self.buffer.window.end() - self.buffer.window.start()) as i32)

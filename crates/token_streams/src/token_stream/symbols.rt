@@ -2,7 +2,6 @@
 // whose contract says more, since it speaks of tokens.
 ghost use Rattle.std.specs.Prelude.{◌≡◌, length, pos, negsuc};
 ghost use Rattle.std.proofs.Common.{sym};
-ghost use Rattle.windows.specs.Windows.{view};
 ghost use Rattle.token_streams.specs.Shown.{Shows, status_of};
 ghost use Rattle.token_streams.specs.Symbols.{SymbolsOf, Unaltered, unaltered_same, unaltered_chained};
 ghost use Rattle.token_streams.specs.Keeps.{keeps, lawful};
@@ -23,7 +22,7 @@ impl<S: TokenSource> IntStream for UnbufferedTokenStream<S> {
 
     ghost numbered = { λ n. negsuc n };
 
-    ghost extent = { λ x. length (view x.buffer.window).tokens };
+    ghost extent = { λ x. length x.buffer.window.tokens };
 
     ghost shows = { λ x s. SymbolsOf (Shows S.TokenSource x) s };
 

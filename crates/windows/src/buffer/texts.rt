@@ -1,7 +1,7 @@
 // The texts of held tokens.
 ghost use Rattle.std.specs.Prelude.{◌≡◌, ◌≤◌, not, ◌++◌, length, drop, nat_lt};
 ghost use Rattle.refusals.specs.Answers.{answer};
-ghost use Rattle.windows.specs.Windows.{view, token_of};
+ghost use Rattle.windows.specs.Windows.{token_of};
 ghost use Rattle.windows.specs.Reads.{unless_eof, texts_between, interval_held, text_answer, text_after};
 
 use crate::buffer::Buffer;
@@ -13,7 +13,7 @@ use tokens::token_source::TokenSource;
 impl<S: TokenSource> Buffer<S> {
     // Whether the tokens from `start` through `stop` are held.
     fn check_interval(&self, start: i32, stop: i32) -> Result<(), Refusal>
-        ensures value { answer result ≡ interval_held (view self.now.window) start stop }
+        ensures value { answer result ≡ interval_held self.now.window start stop }
     {
         if start < 0 {
             return Err(Refusal::Negative);
@@ -32,7 +32,7 @@ impl<S: TokenSource> Buffer<S> {
 
     // The token of an index, if it is held and is no EOF.
     fn before_eof(&self, index: usize) -> Option<Token>
-        ensures value { result ≡ unless_eof (token_of (view self.now.window) index) }
+        ensures value { result ≡ unless_eof (token_of self.now.window index) }
     {
         self.window.get(index).filter(|token| !token.is_eof())
     }
@@ -40,8 +40,8 @@ impl<S: TokenSource> Buffer<S> {
     // Whether the texts of the tokens from one index on and below another fit a room. The two are no `Range`, which would be
     // cloned for each of the walks.
     fn fits(&self, from: usize, to: usize, room: usize) -> bool
-        requires held { (view self.now.window).start ≤ from }
-        ensures value { result ≡ not (nat_lt room (length (texts_between (S.TokenSource.text self.now.source) (view self.now.window) from to))) }
+        requires held { self.now.window.start ≤ from }
+        ensures value { result ≡ not (nat_lt room (length (texts_between (S.TokenSource.text self.now.source) self.now.window from to))) }
     {
         let mut left = room;
         'sum: for at in from..to {
@@ -58,10 +58,10 @@ impl<S: TokenSource> Buffer<S> {
 
     // Writes the texts of the tokens from one index on and below another into an output that they fit.
     fn put(&self, from: usize, to: usize, out: &mut [u8]) -> usize
-        requires held { (view self.now.window).start ≤ from }
-        requires fits { length (texts_between (S.TokenSource.text self.now.source) (view self.now.window) from to) ≤ length out.old }
-        ensures value { result ≡ length (texts_between (S.TokenSource.text self.now.source) (view self.now.window) from to) }
-        ensures after { out.new ≡ texts_between (S.TokenSource.text self.now.source) (view self.now.window) from to ++ drop result out.old }
+        requires held { self.now.window.start ≤ from }
+        requires fits { length (texts_between (S.TokenSource.text self.now.source) self.now.window from to) ≤ length out.old }
+        ensures value { result ≡ length (texts_between (S.TokenSource.text self.now.source) self.now.window from to) }
+        ensures after { out.new ≡ texts_between (S.TokenSource.text self.now.source) self.now.window from to ++ drop result out.old }
     {
         let mut len = 0;
         'put: for at in from..to {
@@ -78,8 +78,8 @@ impl<S: TokenSource> Buffer<S> {
 
     // Writes the texts of the tokens from `start` through `stop`, up to the EOF.
     pub fn text(&self, start: i32, stop: i32, out: &mut [u8]) -> Result<usize, Refusal>
-        ensures value { answer result ≡ text_answer (S.TokenSource.text self.now.source) (view self.now.window) start stop out.old }
-        ensures after { out.new ≡ text_after (S.TokenSource.text self.now.source) (view self.now.window) start stop out.old }
+        ensures value { answer result ≡ text_answer (S.TokenSource.text self.now.source) self.now.window start stop out.old }
+        ensures after { out.new ≡ text_after (S.TokenSource.text self.now.source) self.now.window start stop out.old }
     {
         self.check_interval(start, stop)?;
         let from = upward(start);

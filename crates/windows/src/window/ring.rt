@@ -1,7 +1,7 @@
 // A window's calls.
-ghost use Rattle.std.specs.Prelude.{◌≡◌, []};
+ghost use Rattle.std.specs.Prelude.{◌≡◌, ◌≤◌, [], length};
 ghost use Rattle.refusals.specs.Answers.{answer};
-ghost use Rattle.windows.specs.Windows.{view, end, reach, admission, admitted, pushed, token_of, without};
+ghost use Rattle.windows.specs.Windows.{end, reach, admission, admitted, pushed, token_of, without};
 
 use crate::window::Window;
 use refusals::Refusal;
@@ -30,7 +30,7 @@ pub const BLANK: Token = Token {
 impl Window {
     // A window that holds nothing and admits no place yet.
     pub fn new() -> Self
-        ensures value { view result ≡ record { start = 0; tokens = []; capacity = 0 } }
+        ensures value { result ≡ record { start = 0; tokens = []; capacity = 0 } }
     {
         Window {
             places: [BLANK; PLACES],
@@ -42,21 +42,24 @@ impl Window {
 
     // The index of the first token held, or of the next where none is.
     pub fn start(&self) -> usize
-        ensures value { result ≡ (view self.now).start }
+        ensures value { result ≡ self.now.start }
     {
         self.start
     }
 
     // The index after the last token held.
     pub fn end(&self) -> usize
-        ensures value { result ≡ end (view self.now) }
+        ensures value { result ≡ end self.now }
+        ensures few { result ≤ 1048576 }
+        ensures places { length self.now.tokens ≤ 2048 }
     {
         self.end
     }
 
     // The index that no token held may have.
     pub fn reach(&self) -> usize
-        ensures value { result ≡ reach (view self.now) }
+        ensures value { result ≡ reach self.now }
+        ensures admitted { self.now.capacity ≤ 2048 }
     {
         self.start + self.capacity
     }
@@ -64,7 +67,7 @@ impl Window {
     // Admits this many of the places.
     pub fn admit(&mut self, capacity: i32) -> Result<(), Refusal>
         ensures value { answer result ≡ admission capacity }
-        ensures after { view self.new ≡ admitted (view self.old) capacity }
+        ensures after { self.new ≡ admitted self.old capacity }
     {
         if !(LEAST_CAPACITY..=MOST_CAPACITY).contains(&capacity) {
             return Err(Refusal::Capacity);
@@ -75,7 +78,7 @@ impl Window {
 
     // Takes a token in and stamps it with its index, if there is a place for it.
     pub fn push(&mut self, token: Token)
-        ensures after { view self.new ≡ pushed (view self.old) token }
+        ensures after { self.new ≡ pushed self.old token }
     {
         if self.end - self.start >= PLACES || self.end >= MOST_TOKENS {
             return;
@@ -89,7 +92,7 @@ impl Window {
 
     // The token of an index, if it is held.
     pub fn get(&self, index: usize) -> Option<Token>
-        ensures value { result ≡ token_of (view self.now) index }
+        ensures value { result ≡ token_of self.now index }
     {
         if !(self.start..self.end).contains(&index) {
             return None;
@@ -99,7 +102,7 @@ impl Window {
 
     // Lets the tokens below an index go.
     pub fn drop_below(&mut self, index: usize)
-        ensures after { view self.new ≡ without (view self.old) index }
+        ensures after { self.new ≡ without self.old index }
     {
         self.start = index.clamp(self.start, self.end);
     }

@@ -1,6 +1,4 @@
 use Rattle.std.proofs.Common.{◌<◌, IfSome, sym, refl, ap, ◌∙◌, subst, arith}
-use Rattle.windows.specs.Windows.{view, end}
-use Rattle.windows.proofs.Ring.{ring_end}
 use Rattle.token_streams.proofs.Together.{frees}
 use Rattle.token_streams.proofs.Steps.{together_as, consume_finds_full, consume_finds_eof, consume_finds_next}
 use Rattle.token_streams.proofs.token_stream.UnbufferedTokenStream.consume.Goals as goal
@@ -17,9 +15,8 @@ returns-then-at-self-clause-after g c = λ u s.
 
 pub invariant_of-self-2 : goal.invariant_of-self-2
 invariant_of-self-2 g c =
-    let window = c.see.new.self.window in
-    let held : c.in_ok-at.at < end (view window) = subst (λ o. IfSome o (λ i. i < end (view window))) c.in_ok-at.ensures.ok_part c.see.ensures.held in
-    record { few = omega (arith, held, ring_end window.places window.start window.end window.ordered, window.few); falling = c.args.self.now.falling; unmarked = c.args.self.now.unmarked }
+    let few : c.in_ok-at.at < 1048576 = subst (λ o. IfSome o (λ i. i < 1048576)) c.in_ok-at.ensures.ok_part c.see.ensures.few in
+    record { few = omega (arith, few); falling = c.args.self.now.falling; unmarked = c.args.self.now.unmarked }
 
 pub returns-clause-after : goal.returns-clause-after
 returns-clause-after g c = λ u s.

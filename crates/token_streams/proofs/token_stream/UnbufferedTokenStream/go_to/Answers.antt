@@ -1,6 +1,4 @@
 use Rattle.std.proofs.Common.{◌<◌, ◌≤◌, IfSome, sym, refl, ap, ◌∙◌, subst, arith}
-use Rattle.windows.specs.Windows.{view, end}
-use Rattle.windows.proofs.Ring.{ring_end}
 use Rattle.token_streams.proofs.Together.{frees}
 use Rattle.token_streams.proofs.Steps.{together_as, seek_finds_full, seek_finds}
 use Rattle.token_streams.proofs.token_stream.UnbufferedTokenStream.go_to.Goals as goal
@@ -8,20 +6,19 @@ use Rattle.token_streams.proofs.token_stream.UnbufferedTokenStream.go_to.Goals a
 pub returns-in_err-at-clause-after : goal.returns-in_err-at-clause-after
 returns-in_err-at-clause-after g c = λ u s.
     let see = c.see.ensures in
-    let low : (view c.args.self.now.buffer.window).start ≤ c.args.index = omega (arith, c.start.ensures.value, c.if-index-start.false) in
+    let low : c.args.self.now.buffer.window.start ≤ c.args.index = omega (arith, c.start.ensures.value, c.if-index-start.false) in
     seek_finds_full s c.requires.is_open _ _ _ see.start see.capacity see.after see.texts c.args.index low see.pulled (λ list holds. sym c.in_err-at.ensures.ok_part ∙ see.value list holds)
 
 pub invariant_of-self-2 : goal.invariant_of-self-2
 invariant_of-self-2 g c =
-    let window = c.see.new.self.window in
-    let held : c.in_ok-at.at < end (view window) = subst (λ o. IfSome o (λ i. i < end (view window))) c.in_ok-at.ensures.ok_part c.see.ensures.held in
-    record { few = omega (arith, held, ring_end window.places window.start window.end window.ordered, window.few); falling = c.args.self.now.falling; unmarked = c.args.self.now.unmarked }
+    let few : c.in_ok-at.at < 1048576 = subst (λ o. IfSome o (λ i. i < 1048576)) c.in_ok-at.ensures.ok_part c.see.ensures.few in
+    record { few = omega (arith, few); falling = c.args.self.now.falling; unmarked = c.args.self.now.unmarked }
 
 pub returns-clause-after : goal.returns-clause-after
 returns-clause-after g c = λ u s.
     let see = c.see.ensures in
     let settled = c.settle.ensures in
     let self = c.args.self.now in
-    let low : (view self.buffer.window).start ≤ c.args.index = omega (arith, c.start.ensures.value, c.if-index-start.false) in
+    let low : self.buffer.window.start ≤ c.args.index = omega (arith, c.start.ensures.value, c.if-index-start.false) in
     together_as refl settled.window (ap g.S.TokenSource.coming settled.source) (ap g.S.TokenSource.text settled.source) settled.cursor settled.before settled.status
     (seek_finds s c.requires.is_open _ _ _ see.start see.capacity see.after see.texts c.args.index low see.pulled c.in_ok-at.at (λ list holds. sym c.in_ok-at.ensures.ok_part ∙ see.value list holds) _ (frees self.marks.numbering self.marks.out))

@@ -1,6 +1,12 @@
-use Rattle.std.proofs.Common.{sym}
-use Rattle.windows.proofs.Ring.{ring_end}
+use Rattle.std.proofs.Common.{◌-◌, length, sym, ap, ◌∙◌, arith}
+use Rattle.windows.specs.Windows.{end}
+use Rattle.windows.proofs.Ring.{length_ring, ring_end}
 use Rattle.windows.proofs.window.Window.end.Goals as goal
 
-pub returns : goal.returns
-returns c = let self = c.args.self.now in record { value = sym (ring_end self.places self.start self.end self.ordered) }
+pub returns-clause-value : goal.returns-clause-value
+returns-clause-value c = let self = c.self.inside in sym (ring_end self.places self.start self.end c.self.invariant.ordered) ∙ ap end c.self.view_is
+
+pub returns-clause-places : goal.returns-clause-places
+returns-clause-places c =
+    let self = c.self.inside in
+    omega (arith, length_ring self.places self.start (self.end - self.start), ap (λ v. length v.tokens) c.self.view_is, c.self.invariant.fits)

@@ -1,17 +1,18 @@
-use Rattle.std.proofs.Common.{◌<◌, ◌≤◌, ◌⊎◌, refl, arith}
+use Rattle.std.proofs.Common.{◌<◌, ◌≤◌, ◌⊎◌, refl, ap, ◌∙◌, arith}
 use Rattle.std.proofs.lemmas.Grind.{common_steps}
+use Rattle.windows.specs.Windows.{token_of}
 use Rattle.windows.proofs.Ring.{get_outside, get_held}
 use Rattle.windows.proofs.window.Window.get.Goals as goal
 
 pub returns-then-not-contains : goal.returns-then-not-contains
 returns-then-not-contains c =
-    let self = c.args.self.now in
+    let self = c.self.inside in
     let outside : (c.args.index < self.start) ⊎ (self.end ≤ c.args.index) = grind (arith, common_steps) in
-    record { value = get_outside self.places self.capacity self.start self.end self.ordered c.args.index outside }
+    record { value = get_outside self.places self.capacity self.start self.end c.self.invariant.ordered c.args.index outside ∙ ap (λ v. token_of v c.args.index) c.self.view_is }
 
 pub returns : goal.returns
 returns c =
-    let self = c.args.self.now in
+    let self = c.self.inside in
     let low : self.start ≤ c.args.index = grind (arith, common_steps) in
     let high : c.args.index < self.end = grind (arith, common_steps) in
-    record { value = get_held self.places self.capacity self.start self.end self.ordered c.args.index _ low high refl }
+    record { value = get_held self.places self.capacity self.start self.end c.self.invariant.ordered c.args.index _ low high refl ∙ ap (λ v. token_of v c.args.index) c.self.view_is }

@@ -1,27 +1,30 @@
-use Rattle.std.proofs.Common.{◌≡◌, ◌%◌, ◌<◌, length, pos, ◌∙◌, arith, w32, to_z}
+use Rattle.std.proofs.Common.{◌≡◌, ◌%◌, ◌<◌, length, pos, sym, ap, ◌∙◌, arith, w32, to_z}
 use Rattle.std.proofs.lemmas.Int.{ints}
 use Rattle.std.proofs.lemmas.List.{get_or-set_same}
 use Rattle.tokens.specs.Tokens.{with_index}
-use Rattle.windows.proofs.Ring.{push_full, push_late, push_one}
+use Rattle.windows.specs.Windows.{pushed}
+use Rattle.windows.proofs.Ring.{seen, push_full, push_late, push_one}
 use Rattle.windows.proofs.window.Window.push.Goals.{then-self-ge-PLACES-via-then-self-ge-PLACES, then-self-ge-PLACES-via-else-self-ge-PLACES+then-self-ge-MOST_TOKENS}
 use Rattle.windows.proofs.window.Window.push.Goals as goal
 
 pub returns-then-self-ge-PLACES : goal.returns-then-self-ge-PLACES
 returns-then-self-ge-PLACES c =
-    let self = c.args.self.now in
-    elim c.then-self-ge-PLACES.branch [
-      | then-self-ge-PLACES-via-then-self-ge-PLACES w ↦ record { after = push_full self.places self.capacity self.start self.end self.ordered c.args.token (omega arith) }
-      | then-self-ge-PLACES-via-else-self-ge-PLACES+then-self-ge-MOST_TOKENS w ↦ record { after = push_late self.places self.capacity self.start self.end self.ordered c.args.token (omega arith) }
-    ]
+    let self = c.self.inside in
+    let held = seen self.places self.capacity self.start self.end in
+    let kept : held ≡ pushed held c.args.token = elim c.then-self-ge-PLACES.branch [
+      | then-self-ge-PLACES-via-then-self-ge-PLACES w ↦ push_full self.places self.capacity self.start self.end c.self.invariant.ordered c.args.token (omega arith)
+      | then-self-ge-PLACES-via-else-self-ge-PLACES+then-self-ge-MOST_TOKENS w ↦ push_late self.places self.capacity self.start self.end c.self.invariant.ordered c.args.token (omega arith)
+    ] in
+    record { after = sym c.self.view_is ∙ kept ∙ ap (λ v. pushed v c.args.token) c.self.view_is }
 
 pub returns : goal.returns
 returns c =
-    let self = c.args.self.now in
-    let inside : self.end % 2048 < length self.places = omega (arith, self.whole) in
-    let number : to_z w32 self.end ≡ pos self.end = omega (arith, ints) in
+    let self = c.self.inside in
+    let inside : self.end % 2048 < length self.places = omega (arith, c.self.invariant.whole) in
+    let number : to_z w32 self.end ≡ pos self.end = omega (arith, ints, c.self.invariant.few) in
     let lent = get_or-set_same self.places (self.end % 2048) c.args.token _ inside in
     record {
       after =
-          push_one self.places self.capacity self.start self.end self.ordered c.args.token c.args.token _ self.whole (omega arith) (omega arith)
-          (c.set_token_index.ensures.after ∙ (λ i. with_index (number i) (lent i)));
+          push_one self.places self.capacity self.start self.end c.self.invariant.ordered c.args.token c.args.token _ c.self.invariant.whole (omega arith) (omega arith)
+          (c.set_token_index.ensures.after ∙ (λ i. with_index (number i) (lent i))) ∙ ap (λ v. pushed v c.args.token) c.self.view_is;
     }
