@@ -161,8 +161,8 @@ module _ {S : Type 0} (i : Ghosts S) where
   turning {x} {y} {wanted} {n} opened marked w more s shown = turn (i.status x) s wanted n (i.lawful x s shown).1 opened marked (i.lawful y (at s n) (w.walked s shown).there).0 (w.walked s shown).left more
 
   -- the number that a look gave is the symbol's
-  pub seen_here : {x y : S} {wanted : List ℤ} {n : ℕ} (z : ℤ) → Walk x y wanted n → ((s : Stream) → i.shows x s → Turn s wanted n) → ((s : Stream) → i.shows y s → gives z ≡ la s i.nothing (pos 1)) → (s : Stream) → i.shows x s → z ≡ (here s n).number
-  seen_here {wanted} {n} z w turns e s shown = la_now s wanted n (turns s shown) i.nothing z (e (at s n) (w.walked s shown).there)
+  pub seen_here : {x y : S} {wanted : List ℤ} {n : ℕ} (z : ℤ) → Walk x y wanted n → ((s : Stream) → i.shows x s → Turn s wanted n) → ((s : Stream) → i.shows y s → gives z ≡ la s i.NOTHING_BEFORE (pos 1)) → (s : Stream) → i.shows x s → z ≡ (here s n).number
+  seen_here {wanted} {n} z w turns e s shown = la_now s wanted n (turns s shown) i.NOTHING_BEFORE z (e (at s n) (w.walked s shown).there)
 
   -- a step on
   pub walk_more : {x y : S} (z : S) {wanted : List ℤ} {n : ℕ} → Walk x y wanted n → ((s : Stream) → i.shows x s → Walked (i.shows z) s wanted (n + 1)) → i.status z ≡ i.status y → i.unaltered y z → Walk x z wanted (n + 1)

@@ -17,10 +17,6 @@ use streams::mark::{Kept, Mark, Marks, Numbering};
 use texts::units::{CodePoints8, CodePoints16, CodePoints32};
 use texts::utf8_text::Utf8Text;
 
-// What a look back answers before the first symbol. The trait's constant has no known value in generic code, so that both
-// it and the calls here take this one.
-const NOTHING_BEFORE: i32 = -1;
-
 // The number of every mark.
 const MARK_NUMBER: i32 = -1;
 
@@ -118,16 +114,16 @@ impl<D: InputData> InputStream<D> {
     fn number_behind(&self, steps: usize) -> i32
         ensures value { result ≡ reached (D.InputData.meaning self.now.text) (negsuc 0) (back (D.InputData.meaning self.now.text) self.now.index steps) }
     {
-        self.reached(self.text.back(self.index, steps), NOTHING_BEFORE)
+        self.reached(self.text.back(self.index, steps), Self::NOTHING_BEFORE)
     }
 }
 
 impl<D: InputData> IntStream for InputStream<D> {
     ghost use Rattle.input_streams.specs.Shown.{marks_of, Shown};
 
-    const NOTHING_BEFORE: i32 = NOTHING_BEFORE;
+    const NOTHING_BEFORE: i32 = -1;
 
-    ghost nothing = { negsuc 0 };
+    ghost NOTHING_BEFORE = { negsuc 0 };
 
     ghost status = { λ x. open_with (marks_of x) };
 

@@ -23,9 +23,9 @@ pub struct Looks {
 // What is ahead of a step that is accepted is behind after it.
 pub fn ordered_lookahead<S: IntStream>(stream: &mut S) -> Looks
     ensures ordered_lookahead { IfShown S.IntStream.shows stream.old (λ s. (z : ℤ) → answer result.ahead ≡ gives z → answer result.step ≡ gives tt → answer result.behind ≡ gives z) }
-    ensures ahead { IfShown S.IntStream.shows stream.old (λ s. answer result.ahead ≡ la s S.IntStream.nothing (pos 1)) }
+    ensures ahead { IfShown S.IntStream.shows stream.old (λ s. answer result.ahead ≡ la s S.IntStream.NOTHING_BEFORE (pos 1)) }
     ensures step { IfShown S.IntStream.shows stream.old (λ s. answer result.step ≡ consume s) }
-    ensures behind { IfShown S.IntStream.shows stream.old (λ s. answer result.behind ≡ la (consumed s) S.IntStream.nothing (negsuc 0)) }
+    ensures behind { IfShown S.IntStream.shows stream.old (λ s. answer result.behind ≡ la (consumed s) S.IntStream.NOTHING_BEFORE (negsuc 0)) }
     ensures after { Becomes S.IntStream.shows stream.old stream.new consumed }
     ensures status { S.IntStream.status stream.new ≡ S.IntStream.status stream.old }
     ensures unaltered { S.IntStream.unaltered stream.old stream.new }
@@ -78,8 +78,8 @@ pub struct Ends {
 // Where a look ahead meets the EOF, so does every look further on.
 pub fn end_stays<S: IntStream>(stream: &mut S, near: i32, far: i32) -> Ends
     ensures end_stays { IfShown S.IntStream.shows stream.old (λ s. pos 1 ≤ℤ near → near ≤ℤ far → answer result.near ≡ gives (negsuc 0) → answer result.far ≡ gives (negsuc 0)) }
-    ensures near { IfShown S.IntStream.shows stream.old (λ s. answer result.near ≡ la s S.IntStream.nothing near) }
-    ensures far { IfShown S.IntStream.shows stream.old (λ s. answer result.far ≡ la s S.IntStream.nothing far) }
+    ensures near { IfShown S.IntStream.shows stream.old (λ s. answer result.near ≡ la s S.IntStream.NOTHING_BEFORE near) }
+    ensures far { IfShown S.IntStream.shows stream.old (λ s. answer result.far ≡ la s S.IntStream.NOTHING_BEFORE far) }
     ensures after { Becomes S.IntStream.shows stream.old stream.new (λ s. s) }
     ensures status { S.IntStream.status stream.new ≡ S.IntStream.status stream.old }
     ensures unaltered { S.IntStream.unaltered stream.old stream.new }

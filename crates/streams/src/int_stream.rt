@@ -17,7 +17,7 @@ pub trait IntStream: Sized {
     // what a look back answers where nothing is
     const NOTHING_BEFORE: i32;
 
-    ghost nothing: { ℤ };
+    ghost NOTHING_BEFORE: { ℤ };
 
     // whether it is open, and the marks that are out
     ghost status: { Self → Status };
@@ -42,7 +42,7 @@ pub trait IntStream: Sized {
 
     // The k-th symbol from the cursor on, or the -k-th before it.
     fn la(&mut self, k: i32) -> Result<i32, Refusal>
-        ensures value { IfShown shows self.old (λ s. answer result ≡ la s nothing k) }
+        ensures value { IfShown shows self.old (λ s. answer result ≡ la s NOTHING_BEFORE k) }
         ensures after { Becomes shows self.old self.new (λ s. s) }
         ensures status { status self.new ≡ status self.old }
         ensures unaltered { unaltered self.old self.new };

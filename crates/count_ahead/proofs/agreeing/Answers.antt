@@ -7,7 +7,7 @@ pub returns-in_err-la-clause-value : goal.returns-in_err-la-clause-value
 returns-in_err-la-clause-value g c =
     let i = g.S.IntStream in
     let turns = turning i c.requires.opened c.requires.marked c.loop-count.invariant c.loop-count-test.true in
-    λ s shown. absurd (la_not_refused s _ _ (turns s shown) i.nothing _ (c.in_err-la.ensures.value _ (c.loop-count.invariant.walked s shown).there))
+    λ s shown. absurd (la_not_refused s _ _ (turns s shown) i.NOTHING_BEFORE _ (c.in_err-la.ensures.value _ (c.loop-count.invariant.walked s shown).there))
 
 pub returns-then-branch-number-clause-value : goal.returns-then-branch-number-clause-value
 returns-then-branch-number-clause-value g c =

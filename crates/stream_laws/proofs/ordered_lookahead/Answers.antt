@@ -15,7 +15,7 @@ returns g c =
     record {
       ordered_lookahead = λ s shown z ahead step.
           back.value _ (stepped s shown)
-          ∙ behind_was_ahead s i.nothing z (i.lawful x s shown).0 (sym (looks.value s shown) ∙ ahead) (sym (steps.value s (looks.after s shown)) ∙ step);
+          ∙ behind_was_ahead s i.NOTHING_BEFORE z (i.lawful x s shown).0 (sym (looks.value s shown) ∙ ahead) (sym (steps.value s (looks.after s shown)) ∙ step);
       ahead = looks.value;
       step = λ s shown. steps.value s (looks.after s shown);
       behind = λ s shown. back.value _ (stepped s shown);

@@ -18,7 +18,7 @@ returns-in_err-here g c =
     let p = err_from_is_err_and r.result r.ensures.1 in
     let none = c.in_err-here.ensures.value in
     record {
-      seek_back_restores = λ s shown. closed_shows i x i.nothing _ s shown (none s shown);
+      seek_back_restores = λ s shown. closed_shows i x i.NOTHING_BEFORE _ s shown (none s shown);
       accepted = λ s shown. IfOk-from_err r.result _ r.ensures.0;
       value = λ s shown. ap mark_made p.1 ∙ ap (λ d. refuses (number d)) p.2 ∙ closed_unmarked i x _ _ s shown (none s shown);
       status = λ s shown. closed_status i x _ _ s shown (none s shown);

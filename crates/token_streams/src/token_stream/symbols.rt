@@ -16,7 +16,7 @@ use tokens::token_source::TokenSource;
 impl<S: TokenSource> IntStream for UnbufferedTokenStream<S> {
     const NOTHING_BEFORE: i32 = TOKEN_INVALID_TYPE;
 
-    ghost nothing = { pos 0 };
+    ghost NOTHING_BEFORE = { pos 0 };
 
     ghost status = { λ x. status_of x };
 
