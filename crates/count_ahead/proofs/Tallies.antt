@@ -1,5 +1,5 @@
 -- The tally of what agrees, one symbol after the other. Assumes nothing.
-use Rattle.std.proofs.Common.{◌≡◌, ℕ, zero, suc, ◌+◌, min, Bool, true, false, cond, ◌||◌, List, [], ◌∷◌, map, length, take, ℤ, refl, ap, ◌∙◌, add_assoc, zero-add, arith}
+use Rattle.std.proofs.Common.{◌≡◌, ℕ, zero, suc, ◌+◌, min, Bool, true, false, cond, ◌||◌, List, [], ◌∷◌, map, length, take, ℤ, refl, ap, ◌∙◌, add_assoc, arith}
 use Rattle.refusals.specs.Answers.{Answer, gives, refuses, unless}
 use Rattle.tokens.specs.Tokens.{same}
 use Rattle.streams.specs.Streams.{Symbol, Stream, beyond}
@@ -13,10 +13,6 @@ tally s ys ws = unless (some_beyond s (take (min (agreed (map (λ y. y.number) y
 abbrev pub raised : ℕ → Answer ℕ → Answer ℕ
 raised n (gives m) = gives (n + m)
 raised n (refuses m) = refuses m
-
-pub raised_none : (a : Answer ℕ) → raised 0 a ≡ a
-raised_none (gives m) = ap gives (zero-add m)
-raised_none (refuses m) = refl
 
 pub raised_more : (n : ℕ) (a : Answer ℕ) → raised (n + 1) a ≡ raised n (raised 1 a)
 raised_more n (gives m) = ap gives (add_assoc n 1 m)
