@@ -68,7 +68,7 @@ impl Class {
     {
         match self {
             Letter | Digit | Blank => class_of(code) == self,
-            Hash => code != 10,
+            Hash => code != u32::from(b'\n'),
             LineFeed | Other => false,
         }
     }

@@ -17,7 +17,7 @@ use tokens::token::{TOKEN_DEFAULT_CHANNEL, TOKEN_EOF, Token, UNSTAMPED};
 use tokens::token_factory::{span_text_len, write_span_text};
 use tokens::token_source::TokenSource;
 
-const POINT: u32 = 46;
+const POINT: u32 = '.' as u32;
 
 // Symbols passed over: where they end, and how many they are.
 #[derive(Clone, Copy)]
@@ -35,7 +35,8 @@ struct Cursor<'a, D: InputData> {
 }
 
 impl<'a, D: InputData> Cursor<'a, D> {
-    // Passes over the symbols that a run goes on with. It takes the class, and no closure: each would only call `goes_on`.
+    // Passes over the symbols that a run goes on with, and counts them: one walk gives both, where a chain would walk twice. It
+    // takes the class, and no closure: each would only call `goes_on`.
     fn run(&self, class: Class) -> Piece
         ensures passed { Passed (D.InputData.meaning self.now.input.now) self.now.at (prefix_len (goes_on class) (rest (D.InputData.meaning self.now.input.now) self.now.at)) result.end result.count }
     {
@@ -87,7 +88,8 @@ impl<'a, D: InputData> Cursor<'a, D> {
     }
 }
 
-// The lexer stands at a start, on a line and in a column. That it is a start needs no ghost field: elsewhere only the EOF is to come.
+// The lexer stands at a start, on a line and in a column. No ghost field says that it is a start: its meaning covers the other
+// positions too, from which only the EOF comes.
 #[derive(Drop)]
 pub struct SheetLexer<D> {
     input: D,

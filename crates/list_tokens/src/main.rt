@@ -12,7 +12,7 @@ const READ: u64 = 65_537;
 // The number is the answer, and the words are for whoever looks on.
 fn print_refusal(rt: &HostRuntime, refusal: Refusal) -> io::Result<()> {
     println!(rt; "REFUSED {}", refusal.number())?;
-    eprintln!(rt; "list-tokens: {}", refusal.word())
+    eprintln!(rt; "list-tokens: {refusal}")
 }
 
 fn main(rt: HostRuntime) -> io::Result<()> {

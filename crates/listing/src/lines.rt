@@ -4,10 +4,7 @@ ghost use Rattle.listing.specs.Lines.{escape, escaped, line, listed};
 
 use std::alloc::{AllocError, Global};
 use tokens::token::Token;
-use tokens::token_source::TokenSource;
-
-// No source has more tokens to come.
-const MOST_TOKENS: u32 = 1_048_576;
+use tokens::token_source::{MOST_TOKENS, TokenSource};
 
 // Adds a byte of a text to a line. What would break the line, or read as an escape, is escaped.
 fn push_escaped(out: &mut Vec<u8>, byte: u8) -> Result<(), AllocError>
@@ -60,8 +57,7 @@ fn push_token<S: TokenSource>(
 {
     let heap = *out.allocator();
     let mut text = vec![in heap; 0; source.text_len(token)]?;
-    // The text fits, since the buffer has its length.
-    let _ = source.write_text(token, text.as_mut_slice());
+    source.write_text(token, text.as_mut_slice()).unwrap();
     push_line(out, index, token, text.as_slice())
 }
 
@@ -70,7 +66,7 @@ pub fn list<S: TokenSource + Drop>(heap: Global, mut source: S) -> Result<Vec<u8
     ensures made { IfOk result (λ v. v.items ≡ listed (S.TokenSource.text source) 0 (S.TokenSource.coming source)) }
 {
     let mut out = Vec::new(heap);
-    'pull: for index in 0..MOST_TOKENS {
+    'pull: for index in 0..MOST_TOKENS as u32 {
         let token = source.next_token();
         push_token(&mut out, &source, index, &token)?;
         if token.is_eof() {

@@ -10,17 +10,17 @@ use texts::utf8_text::Utf8Text;
 use tokens::token_source::TokenSource;
 
 // A text has no more tokens than one for each byte, and the EOF.
-const MOST_TOKENS: u64 = 65_537;
+const MOST_PULLED: u64 = 65_537;
 
 // How many tokens a text has, the EOF included.
 fn count(text: Utf8Text) -> u64 {
     let mut lexer = SheetLexer::new(text);
-    for tokens in 1..MOST_TOKENS {
+    for tokens in 1..MOST_PULLED {
         if lexer.next_token().is_eof() {
             return tokens;
         }
     }
-    MOST_TOKENS
+    MOST_PULLED
 }
 
 fn run(rt: &HostRuntime) -> anyhow::Result<()> {

@@ -3,7 +3,7 @@ use Rattle.std.proofs.Common.{◌≡◌, ℕ, Bool, true, false, cond, not, leb,
 use Rattle.refusals.specs.Answers.{gives, refuses, unless, if_given}
 use Rattle.streams.specs.Streams.{Status, Stream, with_marks, Lawful}
 use Rattle.streams.specs.Marks.{releasing, after_releasing}
-use Rattle.streams.specs.Calls.{mark_answer, marks_after_mark, release_answer, marks_after_release, status_with}
+use Rattle.streams.specs.Calls.{mark_answer, marks_after_mark, marks_after_release, status_with}
 use Rattle.streams.proofs.Equals.{same_self}
 use Rattle.streams.proofs.Moves.{moved_here}
 use Rattle.streams.proofs.Steps.{unless_passed}
@@ -28,7 +28,7 @@ marked t n z e =
     given : gives n ≡ gives z → z ≡ n
     given e = cc
 
--- a mark that was refused changes no mark, and any call that tests the same first refuses the same
+-- a mark that was refused changes no mark
 module _ (t : Status) (n : ℤ) (m : ℕ) (e : refuses m ≡ mark_answer t n) where
   pub unmarked : marks_after_mark t n ≡ t.marks
   unmarked = ap (λ a. if_given a (n ∷ t.marks) t.marks) (sym e)
@@ -37,9 +37,6 @@ module _ (t : Status) (n : ℤ) (m : ℕ) (e : refuses m ≡ mark_answer t n) wh
 module _ (t : Status) (n z : ℤ) (m : Marked t n z) where
   latest_back : releasing (n ∷ t.marks) z ≡ gives tt
   latest_back = ap (λ z. releasing (n ∷ t.marks) z) m.numbered ∙ ap (λ b. unless (not b) 7 (gives tt)) (same_self n)
-
-  pub released_given : release_answer (status_with t (n ∷ t.marks)) z ≡ gives tt
-  released_given = ap (λ o. unless (not o) 9 (releasing (n ∷ t.marks) z)) m.opened ∙ latest_back
 
   pub released_marks : marks_after_release (status_with t (n ∷ t.marks)) z ≡ t.marks
   released_marks = ap (λ o. cond o (after_releasing (n ∷ t.marks) z) (n ∷ t.marks)) m.opened ∙ ap (λ a. if_given a t.marks (n ∷ t.marks)) latest_back

@@ -2,3 +2,4 @@ pub mod Tokens
 pub mod Sources
 pub mod Spans
 pub mod Lists
+pub mod Rests

@@ -1,10 +1,9 @@
 -- A source over a caller's tokens and bytes. Assumes nothing.
-use Rattle.std.specs.Prelude.{◌≡◌, ℕ, ◌-◌, ◌≤◌, Bool, true, false, cond, not, ◌&&◌, ◌||◌, List, [], ◌∷◌, length, take, drop, ℤ, pos, negsuc, codes, nat_le, nat_lt}
-use Rattle.std.proofs.Common.{arith}
+use Rattle.std.specs.Prelude.{ℕ, ◌-◌, Bool, false, cond, not, ◌&&◌, ◌||◌, List, [], ◌∷◌, length, take, drop, ℤ, pos, negsuc, codes, nat_le, nat_lt}
 use Rattle.refusals.specs.Answers.{Answer, gives, unless, if_given}
 use Rattle.characters.specs.Signed.{past}
 use Rattle.tokens.specs.declared.token.Token.{Token}
-use Rattle.tokens.specs.Tokens.{is_eof, ends, Lawful}
+use Rattle.tokens.specs.Tokens.{is_eof, ends}
 
 -- whether tokens are a list that a source may give: at most 65,536, the last its only EOF; 15 bad list
 abbrev pub list_check : List Token → Answer (Unit {0})
@@ -16,10 +15,6 @@ lone_eof = record { token_type = negsuc 0; channel = pos 0; start = pos 0; stop 
 
 abbrev pub good_list : List Token → List Token
 good_list ks = if_given (list_check ks) ks (lone_eof ∷ [])
-
--- such a list keeps to the rules of every source
-pub list_lawful : (ks : List Token) → ends ks ≡ true → length ks ≤ 65536 → Lawful ks
-list_lawful ks ended few = record { ended = ended; few = omega (arith, few) }
 
 -- the bytes from one position through another, where both lie inside; each byte is a position
 abbrev pub bytes_within : List ℕ → ℤ → ℤ → Bool

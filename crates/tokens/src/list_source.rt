@@ -3,7 +3,8 @@ ghost use Rattle.std.specs.Prelude.{◌≡◌, ◌≤◌, true, cond, not, ◌&&
 ghost use Rattle.std.specs.Option.{option_map};
 ghost use Rattle.refusals.specs.Answers.{answer};
 ghost use Rattle.tokens.specs.Tokens.{is_eof, ends};
-ghost use Rattle.tokens.specs.Lists.{list_check, good_list, list_lawful, bytes_within, bytes_of, byte_text};
+ghost use Rattle.tokens.specs.Rests.{list_lawful};
+ghost use Rattle.tokens.specs.Lists.{list_check, good_list, bytes_within, bytes_of, byte_text};
 
 use crate::token::{TOKEN_DEFAULT_CHANNEL, TOKEN_EOF, Token, UNSTAMPED};
 use crate::token_factory::{EOF_TEXT, put};
@@ -11,7 +12,7 @@ use crate::token_source::TokenSource;
 use characters::char_stream::past;
 use refusals::Refusal;
 
-const MOST_TOKENS: usize = 65_536;
+const MOST_LISTED: usize = 65_536;
 
 // What stands for a bad list.
 static LONE_EOF: [Token; 1] = [Token {
@@ -66,7 +67,7 @@ impl<'a> ListSource<'a> {
     pub fn check(tokens: &[Token]) -> Result<(), Refusal>
         ensures value { answer result ≡ list_check tokens.now }
     {
-        if tokens.len() <= MOST_TOKENS && ends_well(tokens) {
+        if tokens.len() <= MOST_LISTED && ends_well(tokens) {
             Ok(())
         } else {
             Err(Refusal::BadList)

@@ -9,6 +9,9 @@ ghost use Rattle.tokens.specs.Sources.{Pulls};
 use crate::token::Token;
 use refusals::Refusal;
 
+// A list of tokens to come has no more, which `lawful` says.
+pub const MOST_TOKENS: usize = 1_048_576;
+
 // A source is the tokens still to come, and a text for every token record. A stream uses nothing else of it.
 pub trait TokenSource: Sized {
     // the tokens still to come

@@ -1,16 +1,15 @@
 // A source with the window that is filled from it.
 ghost use Rattle.std.specs.Prelude.{◌≡◌, ◌<◌, ◌≤◌, true, List, [], length, IfSome};
 ghost use Rattle.refusals.specs.Answers.{answer};
-ghost use Rattle.tokens.specs.declared.token.Token.{Token as Record};
+ghost use Rattle.tokens.specs.declared.token.Token.{Token};
 ghost use Rattle.windows.specs.Windows.{end};
 ghost use Rattle.windows.specs.Held.{Holds, Pulled, at_end, wants, pulled_to, within_reach, seen_now, seen_at};
 ghost use Rattle.windows.specs.Reads.{token_found, token_answer};
 
 use crate::window::Window;
-use crate::window::ring::MOST_TOKENS;
 use refusals::Refusal;
 use tokens::token::Token;
-use tokens::token_source::TokenSource;
+use tokens::token_source::{MOST_TOKENS, TokenSource};
 
 mod texts;
 
@@ -63,8 +62,8 @@ impl<S: TokenSource> Buffer<S> {
     pub fn pull_to(&mut self, index: usize)
         ensures start { self.new.window.start ≡ self.old.window.start }
         ensures capacity { self.new.window.capacity ≡ self.old.window.capacity }
-        ensures after { (list : List Record) → Holds list self.old.window (S.TokenSource.coming self.old.source) → Holds list self.new.window (S.TokenSource.coming self.new.source) }
-        ensures pulled { (list : List Record) → Holds list self.old.window (S.TokenSource.coming self.old.source) → end self.new.window ≡ pulled_to (length list) self.old.window index }
+        ensures after { (list : List Token) → Holds list self.old.window (S.TokenSource.coming self.old.source) → Holds list self.new.window (S.TokenSource.coming self.new.source) }
+        ensures pulled { (list : List Token) → Holds list self.old.window (S.TokenSource.coming self.old.source) → end self.new.window ≡ pulled_to (length list) self.old.window index }
         ensures texts { S.TokenSource.text self.new.source ≡ S.TokenSource.text self.old.source }
     {
         'pull: while self.wants(index) {
@@ -97,13 +96,13 @@ impl<S: TokenSource> Buffer<S> {
     // The index where the token of an index is seen: its own, or the EOF's where the list is shorter. It is pulled; none
     // where it lies at the reach or above.
     pub fn see(&mut self, index: usize) -> Option<usize>
-        ensures value { (list : List Record) → Holds list self.old.window (S.TokenSource.coming self.old.source) → result ≡ seen_at (length list) self.old.window index }
+        ensures value { (list : List Token) → Holds list self.old.window (S.TokenSource.coming self.old.source) → result ≡ seen_at (length list) self.old.window index }
         ensures held { IfSome result (λ i. i < end self.new.window) }
         ensures few { IfSome result (λ i. i < 1048576) }
         ensures start { self.new.window.start ≡ self.old.window.start }
         ensures capacity { self.new.window.capacity ≡ self.old.window.capacity }
-        ensures after { (list : List Record) → Holds list self.old.window (S.TokenSource.coming self.old.source) → Holds list self.new.window (S.TokenSource.coming self.new.source) }
-        ensures pulled { (list : List Record) → Holds list self.old.window (S.TokenSource.coming self.old.source) → end self.new.window ≡ pulled_to (length list) self.old.window index }
+        ensures after { (list : List Token) → Holds list self.old.window (S.TokenSource.coming self.old.source) → Holds list self.new.window (S.TokenSource.coming self.new.source) }
+        ensures pulled { (list : List Token) → Holds list self.old.window (S.TokenSource.coming self.old.source) → end self.new.window ≡ pulled_to (length list) self.old.window index }
         ensures texts { S.TokenSource.text self.new.source ≡ S.TokenSource.text self.old.source }
     {
         self.pull_to(index);

@@ -115,6 +115,7 @@ impl<S: TokenSource> Session<S> {
             return Err(Refusal::ShortOutput);
         }
         for (at, call) in calls.iter().enumerate() {
+            // By its index: nothing is known of the answers after a walk that lends each of them.
             answers[at] = self.call(*call, out);
         }
         Ok(calls.len())

@@ -192,6 +192,7 @@ impl<S: TokenSource> UnbufferedTokenStream<S> {
     pub fn size(&self) -> Result<i32, Refusal>
         ensures value { IfShown (Shows S.TokenSource) self.now (λ u. answer result ≡ size_of u) }
         ensures held { answer result ≡ size_answer (status_of self.now) (length self.now.buffer.window.tokens) }
+        ensures places { IfOk result (λ _. length self.now.buffer.window.tokens ≤ 2048) }
     {
         self.opened()?;
         Ok((self.buffer.window.end() - self.buffer.window.start()) as i32)

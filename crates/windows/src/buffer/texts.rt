@@ -69,8 +69,9 @@ impl<S: TokenSource> Buffer<S> {
                 return len;
             };
             let end = len + self.source.text_len(&token);
-            // The text fits, since the part has its length.
-            let _ = self.source.write_text(&token, &mut out[len..end]);
+            self.source
+                .write_text(&token, &mut out[len..end])
+                .unwrap();
             len = end;
         }
         len

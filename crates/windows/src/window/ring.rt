@@ -1,20 +1,18 @@
 // A window's calls.
-ghost use Rattle.std.specs.Prelude.{◌≡◌, ◌≤◌, [], length};
+ghost use Rattle.std.specs.Prelude.{◌≡◌, ◌<◌, ◌≤◌, [], length, OnSome};
 ghost use Rattle.refusals.specs.Answers.{answer};
 ghost use Rattle.windows.specs.Windows.{end, reach, admission, admitted, pushed, token_of, without};
 
 use crate::window::Window;
 use refusals::Refusal;
 use tokens::token::Token;
+use tokens::token_source::MOST_TOKENS;
 
 const PLACES: usize = 2048;
 
 const LEAST_CAPACITY: i32 = 2;
 
 const MOST_CAPACITY: i32 = 2048;
-
-// A source's list has no more.
-pub const MOST_TOKENS: usize = 1_048_576;
 
 // What stands in a place that holds no token yet: the places are a plain array of token records.
 pub const BLANK: Token = Token {
@@ -43,6 +41,7 @@ impl Window {
     // The index of the first token held, or of the next where none is.
     pub fn start(&self) -> usize
         ensures value { result ≡ self.now.start }
+        ensures few { result ≤ 1048576 }
     {
         self.start
     }
@@ -56,7 +55,7 @@ impl Window {
         self.end
     }
 
-    // The index that no token held may have.
+    // The index that no token held may have, nor any index above.
     pub fn reach(&self) -> usize
         ensures value { result ≡ reach self.now }
         ensures admitted { self.now.capacity ≤ 2048 }
@@ -93,6 +92,7 @@ impl Window {
     // The token of an index, if it is held.
     pub fn get(&self, index: usize) -> Option<Token>
         ensures value { result ≡ token_of self.now index }
+        ensures few { OnSome result (index < 1048576) }
     {
         if !(self.start..self.end).contains(&index) {
             return None;
