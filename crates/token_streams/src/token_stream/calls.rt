@@ -88,7 +88,7 @@ impl<S: TokenSource> UnbufferedTokenStream<S> {
     // The k-th token from the cursor on, counted from 0, or the EOF where fewer remain.
     fn ahead(&mut self, k: usize) -> Result<Option<Token>, Refusal>
         requires few { k ≤ 2147483647 }
-        requires is_open { self.old.«open» ≡ true }
+        requires opened { self.old.«open» ≡ true }
         ensures value { IfShown (Shows S.TokenSource) self.old (λ u. answer result ≡ ahead u k) }
         ensures after { Becomes (Shows S.TokenSource) self.old self.new (λ u. needed u (clamped u (u.cursor + k))) }
         ensures status { status_of self.new ≡ status_of self.old }
@@ -155,7 +155,7 @@ impl<S: TokenSource> UnbufferedTokenStream<S> {
 
     // To the token of an index, or to the EOF where the list is shorter.
     fn go_to(&mut self, index: usize) -> Result<(), Refusal>
-        requires is_open { self.old.«open» ≡ true }
+        requires opened { self.old.«open» ≡ true }
         ensures value { IfShown (Shows S.TokenSource) self.old (λ u. answer result ≡ sought u index) }
         ensures after { Becomes (Shows S.TokenSource) self.old self.new (λ u. after_sought u index) }
         ensures status { status_of self.new ≡ status_of self.old }
