@@ -165,8 +165,7 @@ pub trait InputData: Sized {
         }
     }
 
-    // How many bytes the text takes in UTF-8. Each code point says where the next one starts: as an iterator, such a walk would take
-    // a struct with contracts of its own, longer than these lines.
+    // How many bytes the text takes in UTF-8. Each code point says where the next one starts.
     fn display_len(&self) -> usize
         ensures value { result ≡ length (display (meaning self.now)) }
     {

@@ -1,5 +1,6 @@
 // Reads the tokens of the sheet on standard input through a small window, as often as its argument says, and prints how
-// many there were. The time goes to standard error.
+// many there were. The time goes to standard error. `measure_lexer` reads its sheet and its argument alike; a library for that
+// would be longer than the few lines.
 #![tactic(auto)]
 
 use characters::char_stream::InputData;

@@ -31,7 +31,8 @@ pub struct Kept {
     pub refusal: Refusal,
 }
 
-// How the marks of a stream are numbered: all alike, or -1, -2 and so on.
+// How the marks of a stream are numbered: all alike, or -1, -2 and so on. It is a value and no type, since a mark of any number
+// that a script names is made by a ledger.
 #[derive(Clone, Copy, PartialEq, Eq, Debug)]
 pub enum Numbering {
     Fixed(i32),

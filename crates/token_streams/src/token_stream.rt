@@ -10,8 +10,8 @@ pub mod calls;
 pub mod symbols;
 
 // The window's first index is the floor. `before` is the token just below it, if there is one, which a look back by one
-// still shows once the window has dropped it. The window's capacity is 0 until the stream is open, but a flag says that
-// more plainly.
+// still shows once the window has dropped it. `open` is a flag of its own, though the window's capacity is 0 just until then:
+// each call asks whether the stream is open, and none how large the window is.
 #[derive(Drop)]
 pub struct UnbufferedTokenStream<S> {
     buffer: Buffer<S>,
