@@ -1,5 +1,5 @@
 -- Numbers and units as the library reads them. Assumes nothing.
-use Rattle.std.proofs.Common.{◌≡◌, ◌≢◌, ℕ, zero, suc, ◌+◌, ◌^◌, ◌<◌, ◌≤◌, Bool, true, false, eqb, ltb, nat_le, List, [], ◌∷◌, length, get_or, ℤ, pos, neg_ℤ, Some, None, Option, Result, Ok, Err, w32, refl, ap, ◌∙◌, arith, lit<}
+use Rattle.std.proofs.Common.{◌≡◌, ◌≢◌, ℕ, zero, suc, ◌<◌, ◌≤◌, Bool, true, false, cond, eqb, ltb, nat_le, nat_lt, List, [], ◌∷◌, length, get_or, ℤ, pos, neg_ℤ, Some, None, Option, Result, Ok, Err, w32, refl, ap, ◌∙◌, arith, lit<}
 use Rattle.std.proofs.lemmas.Bool.{le-leb, le-ltb, eqb-true, eqb-false, leb-true, ltb-true, ltb-false}
 use Rattle.std.proofs.lemmas.Bool.Decides.{Decides-ltb, Decides-and}
 use Rattle.std.proofs.lemmas.Str.{IsUtf8-from_ascii}
@@ -10,7 +10,7 @@ use Rattle.std.specs.Result.{OkIff, result_ok}
 use Rattle.std.specs.Str.{IsAscii, IsUtf8}
 use Rattle.std.specs.Str.Parse.{AllDigits, IsNumeral, ParsesUnsigned, ParsesSigned, digits_value}
 use Rattle.std.specs.Char.{digit_value}
-use Rattle.scripts.specs.Numerals.{digit, digits, numeral, natural, number, half, whole}
+use Rattle.scripts.specs.Numerals.{digit, digits, numeral, natural, number}
 
 decides_digits : (base : ℕ) (w : List ℕ) → Decides (digits base w) (AllDigits base w)
 decides_digits base [] = (λ _. tt, λ _. refl)
@@ -40,18 +40,11 @@ same : {A : Type 0} (o : Option A) → option_map (λ x. x) o ≡ o
 same None = refl
 same (Some x) = refl
 
--- a word with no plus at an unsigned type
-module _ {E : Type 0} (w : List ℕ) (r : Result ℕ E) (plain : get_or w 0 0 ≢ 43) where
-  read_unsigned : (k most : ℕ) → most + 1 ≡ 2 ^ k → ParsesUnsigned k 16 w r → result_ok r ≡ natural 16 most w
-  read_unsigned k most e h =
-      let own = rw (without_leading_plus_none w plain) at h in
-      read_is (λ n. n) 16 most w r own (λ p. (p.0, omega (arith, p.1, e))) (λ p q. (p, omega (arith, q, e))) ∙ same (natural 16 most w)
-
-  pub read_half : length w ≤ 4 → ParsesUnsigned 16 16 w r → result_ok r ≡ half w
-  read_half short h = rw (le-ltb 4 (length w) short) (read_unsigned 16 65535 refl h)
-
-  pub read_whole : length w ≤ 8 → ParsesUnsigned 32 16 w r → result_ok r ≡ whole w
-  read_whole short h = rw (le-ltb 8 (length w) short) (read_unsigned 32 4294967295 refl h)
+-- a word with no plus at the unsigned type, and with digits that may be
+pub read_hexadecimal : {E : Type 0} (w : List ℕ) (most : ℕ) (r : Result ℕ E) → get_or w 0 0 ≢ 43 → length w ≤ most → ParsesUnsigned 32 16 w r → result_ok r ≡ cond (nat_lt most (length w)) None (natural 16 4294967295 w)
+read_hexadecimal w most r plain short h =
+    let own = rw (without_leading_plus_none w plain) at h in
+    rw (le-ltb most (length w) short) (read_is (λ n. n) 16 4294967295 w r own (λ p. (p.0, omega (arith, p.1))) (λ p q. (p, omega (arith, q))) ∙ same (natural 16 4294967295 w))
 
 -- and at a signed one
 pub read_number : {E : Type 0} (w : List ℕ) (r : Result ℤ E) → get_or w 0 0 ≢ 43 → ParsesSigned w32 10 w r → result_ok r ≡ number w
@@ -107,11 +100,8 @@ module _ (w : List ℕ) (unread : IsUtf8 w → get_or w 0 0 ≡ 43) where
       go true e = absurd (no_numeral base small (numeral_is base w e))
       go false e = e
 
-  pub no_half : length w ≤ 4 → None ≡ half w
-  no_half short = rw (le-ltb 4 (length w) short, not_numeral 16 (omega arith)) refl
-
-  pub no_whole : length w ≤ 8 → None ≡ whole w
-  no_whole short = rw (le-ltb 8 (length w) short, not_numeral 16 (omega arith)) refl
+  pub no_hexadecimal : (most : ℕ) → length w ≤ most → None ≡ cond (nat_lt most (length w)) None (natural 16 4294967295 w)
+  no_hexadecimal most short = rw (le-ltb most (length w) short, not_numeral 16 (omega arith)) refl
 
 pub no_number : (w : List ℕ) → (IsUtf8 w → get_or w 0 0 ≡ 43) → None ≡ number w
 no_number [] unread = refl

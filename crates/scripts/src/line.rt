@@ -77,11 +77,7 @@ fn room(n: i32) -> Option<usize>
 fn released(n: i32) -> Option<Call>
     ensures value { result ≡ released n }
 {
-    if (-255..=0).contains(&n) {
-        Some(Call::Release(n))
-    } else {
-        None
-    }
+    (-255..=0).contains(&n).then_some(Call::Release(n))
 }
 
 // The calls with no number.

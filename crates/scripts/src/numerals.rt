@@ -1,9 +1,9 @@
 // Numbers and units as a script writes them.
-ghost use Rattle.std.specs.Prelude.{◌≡◌, ◌≢◌, ◌<◌, [], ◌∷◌, length, slice_index, List, ℕ, Option, IfSome, IfOk, vec_items, filter, MatchOption};
+ghost use Rattle.std.specs.Prelude.{◌≡◌, ◌≢◌, ◌<◌, [], ◌∷◌, length, slice_index, List, ℕ, Option, IfSome, IfOk, vec_items, filter, MatchOption, None, cond, nat_lt};
 ghost use Rattle.std.specs.Option.{option_map};
 ghost use Rattle.std.specs.Str.{IsUtf8};
 ghost use Rattle.scripts.specs.Words.{dark, words};
-ghost use Rattle.scripts.specs.Numerals.{number, half, whole, every, pair, paired, joined_bytes};
+ghost use Rattle.scripts.specs.Numerals.{natural, number, half, whole, every, pair, paired, joined_bytes};
 
 use crate::words::{Words, spaces};
 use std::alloc::{AllocError, Global};
@@ -39,15 +39,22 @@ impl Numeral for i32 {
     }
 }
 
+// The number of one hexadecimal digit or more, of so many at most.
+fn hexadecimal(word: &[u8], most: usize) -> Option<u32>
+    ensures value { result ≡ cond (nat_lt most (length word.now)) None (natural 16 4294967295 word.now) }
+{
+    if word.len() > most {
+        return None;
+    }
+    u32::from_str_radix(unsigned(word)?, 16).ok()
+}
+
 // One to four hexadecimal digits.
 impl Numeral for u16 {
     ghost reads = { half };
 
     fn read(word: &[u8]) -> Option<u16> {
-        if word.len() > 4 {
-            return None;
-        }
-        u16::from_str_radix(unsigned(word)?, 16).ok()
+        u16::try_from(hexadecimal(word, 4)?).ok()
     }
 }
 
@@ -56,10 +63,7 @@ impl Numeral for u32 {
     ghost reads = { whole };
 
     fn read(word: &[u8]) -> Option<u32> {
-        if word.len() > 8 {
-            return None;
-        }
-        u32::from_str_radix(unsigned(word)?, 16).ok()
+        hexadecimal(word, 8)
     }
 }
 
