@@ -1,5 +1,5 @@
 -- The first word of a line. Assumes nothing.
-use Rattle.std.proofs.Common.{◌≡◌, ℕ, suc, Bool, true, false, cond, List, [], ◌∷◌, length, take, drop, filter, sym, refl, ap, ◌∙◌, one-add, arith}
+use Rattle.std.proofs.Common.{◌≡◌, ℕ, suc, Bool, true, false, cond, List, [], ◌∷◌, take, drop, filter, sym, refl, ap, ◌∙◌, one-add, arith}
 use Rattle.std.specs.List.{prefix_len, flat_map}
 use Rattle.scripts.specs.Words.{space, dark, words, spelled, lengthened}
 
@@ -60,38 +60,6 @@ module _ (line text : List ℕ) (n e : ℕ) (spaces_are : n ≡ prefix_len space
 
   pub no_word : e ≡ 0 → words line ≡ []
   no_word z = sym same_words ∙ word_none text at_word (sym end_is ∙ z)
-
--- what is no space, by its first
-kept_past : (cs : List ℕ) → filter dark (drop (prefix_len space cs) cs) ≡ filter dark cs
-kept_past [] = refl
-kept_past (c ∷ cs) = go (space c) refl (kept_past cs)
-  where
-    go : (b : Bool) → space c ≡ b → filter dark (drop (prefix_len space cs) cs) ≡ filter dark cs → filter dark (drop (prefix_len space (c ∷ cs)) (c ∷ cs)) ≡ filter dark (c ∷ cs)
-    go true e later = rw (e, one-add) later
-    go false e later = rw e (rw e refl)
-
-keeps_first : (c : ℕ) (cs : List ℕ) → prefix_len space (c ∷ cs) ≡ 0 → filter dark (c ∷ cs) ≡ c ∷ filter dark cs
-keeps_first c cs p = go (space c) refl
-  where
-    go : (b : Bool) → space c ≡ b → filter dark (c ∷ cs) ≡ c ∷ filter dark cs
-    go true f = let h = rw f at p in absurd (omega (arith, h))
-    go false f = rw f refl
-
-module _ (line text : List ℕ) (n : ℕ) (spaces_are : n ≡ prefix_len space line) (text_is : text ≡ drop n line) where
-  kept_same : filter dark line ≡ filter dark text
-  kept_same = sym (ap (filter dark) text_is ∙ ap (λ i. filter dark (drop i line)) spaces_are ∙ kept_past line)
-
-  pub dark_none : length text ≡ 0 → filter dark line ≡ []
-  dark_none z = kept_same ∙ nothing text z
-    where
-      nothing : (cs : List ℕ) → length cs ≡ 0 → filter dark cs ≡ []
-      nothing [] z = refl
-      nothing (c ∷ cs) z = absurd (omega arith)
-
-  pub dark_first : (c : ℕ) (rest : List ℕ) → text ≡ c ∷ rest → filter dark line ≡ c ∷ filter dark rest
-  dark_first c rest e =
-      let none = ap (prefix_len space) (sym e) ∙ ap (prefix_len space) text_is ∙ ap (λ i. prefix_len space (drop i line)) spaces_are ∙ no_space line in
-      kept_same ∙ ap (filter dark) e ∙ keeps_first c rest none
 
 -- what is no space is what the words are, joined
 pub joined_words : (cs : List ℕ) → filter dark cs ≡ flat_map (λ w. w) (words cs)

@@ -23,7 +23,7 @@ pub enum Units {
     Words(Vec<u32>),
 }
 
-// A stream that a line makes, a common one on a channel.
+// A stream that a line makes, a common one on a channel. No crate has a common stream yet: its line is answered as a bad one.
 #[derive(Clone, Copy)]
 pub enum Kind {
     Common(i32),

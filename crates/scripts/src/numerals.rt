@@ -5,7 +5,7 @@ ghost use Rattle.std.specs.Str.{IsUtf8};
 ghost use Rattle.scripts.specs.Words.{dark, words};
 ghost use Rattle.scripts.specs.Numerals.{natural, number, half, whole, every, pair, paired, joined_bytes};
 
-use crate::words::{Words, spaces};
+use crate::words::{SPACE, Words};
 use std::alloc::{AllocError, Global};
 use std::str;
 
@@ -81,17 +81,6 @@ pub fn numerals<T: Numeral>(heap: Global, line: &[u8]) -> Result<Option<Vec<T>>,
     Ok(Some(found))
 }
 
-// The first byte that is no space, and what follows it: two are taken at a time, which a `for` over a `filter` could not do
-// without a digit held back.
-fn front_dark(text: &[u8]) -> Option<(u8, &[u8])>
-    ensures cases { MatchOption result (filter dark text.now ≡ []) (λ p. filter dark text.now ≡ p.0 ∷ filter dark p.1.now) }
-    ensures shorter { IfSome result (λ p. length p.1.now < length text.now) }
-{
-    let (_, from) = text.split_at(spaces(text));
-    let (first, rest) = from.split_first()?;
-    Some((*first, rest))
-}
-
 // The byte of two digits.
 fn pair(high: u8, low: u8) -> Option<u8>
     ensures value { result ≡ pair high low }
@@ -106,16 +95,15 @@ fn pairs(heap: Global, line: &[u8]) -> Result<Option<Vec<u8>>, AllocError>
     ensures made { IfOk result (λ o. option_map vec_items o ≡ paired (filter dark line.now)) }
 {
     let mut found = Vec::new(heap);
-    let mut rest = line;
-    'pairs: while let Some((high, after)) = front_dark(rest) {
-        let Some((low, more)) = front_dark(after) else {
+    let mut digits = line.iter().filter(|byte| **byte != SPACE);
+    'pairs: while let Some(high) = digits.next() {
+        let Some(low) = digits.next() else {
             return Ok(None);
         };
-        let Some(byte) = pair(high, low) else {
+        let Some(byte) = pair(*high, *low) else {
             return Ok(None);
         };
         found.push(byte)?;
-        rest = more;
     }
     Ok(Some(found))
 }

@@ -1,35 +1,20 @@
 // The lines of a script, and the words of a line.
-ghost use Rattle.std.specs.Prelude.{◌≡◌, ◌<◌, ◌≤◌, [], ◌∷◌, length, IfSome, MatchOption};
+ghost use Rattle.std.specs.Prelude.{◌≡◌, ◌<◌, ◌≤◌, ℕ, Bool, [], ◌∷◌, length, IfSome, MatchOption};
 ghost use Rattle.std.specs.List.{prefix_len};
 ghost use Rattle.std.specs.Iterator.{YieldsFirstRef, item_count};
 ghost use Rattle.scripts.specs.Words.{space, dark, in_line, first_line, later_lines, lines, words, passed_over};
 
-const SPACE: u8 = b' ';
+pub(crate) const SPACE: u8 = b' ';
 
 const LINE_FEED: u8 = b'\n';
 
-// How many bytes come before a text's first line feed, or its end.
-fn line_len(text: &[u8]) -> usize
-    ensures value { result ≡ prefix_len in_line text.now }
+// How many bytes of a text come before the first at which its front does not go on, or before its end.
+fn front_len<F: Fn(u8) -> bool>(text: &[u8], goes_on: F) -> usize
+    requires { F.IsAlwaysCallable goes_on }
+    ensures value { (p : ℕ → Bool) → ((byte : ℕ) (r : Bool) → F.post goes_on byte r → r ≡ p byte) → result ≡ prefix_len p text.now }
     ensures inside { result ≤ length text.now }
 {
-    text.iter().take_while(|byte| **byte != LINE_FEED).count()
-}
-
-// How many bytes come before a text's first space, or its end.
-fn word_len(text: &[u8]) -> usize
-    ensures value { result ≡ prefix_len dark text.now }
-    ensures inside { result ≤ length text.now }
-{
-    text.iter().take_while(|byte| **byte != SPACE).count()
-}
-
-// How many spaces a text begins with.
-pub(crate) fn spaces(text: &[u8]) -> usize
-    ensures value { result ≡ prefix_len space text.now }
-    ensures inside { result ≤ length text.now }
-{
-    text.iter().take_while(|byte| **byte == SPACE).count()
+    text.iter().take_while(|byte| goes_on(**byte)).count()
 }
 
 // The first line, and what follows its line feed.
@@ -38,7 +23,7 @@ pub fn front_line(script: &[u8]) -> (&[u8], &[u8])
     ensures rest { result.1.now ≡ later_lines script.now }
     ensures shorter { 0 < length script.now → length result.1.now < length script.now }
 {
-    let (line, more) = script.split_at(line_len(script));
+    let (line, more) = script.split_at(front_len(script, |byte| byte != LINE_FEED));
     match more {
         [_, rest @ ..] => (line, rest),
         [] => (line, more),
@@ -50,15 +35,15 @@ pub fn front_word(line: &[u8]) -> Option<(&[u8], &[u8])>
     ensures cases { MatchOption result (words line.now ≡ []) (λ p. words line.now ≡ p.0.now ∷ words p.1.now) }
     ensures shorter { IfSome result (λ p. length p.1.now < length line.now) }
 {
-    let (_, text) = line.split_at(spaces(line));
-    let end = word_len(text);
+    let (_, text) = line.split_at(front_len(line, |byte| byte == SPACE));
+    let end = front_len(text, |byte| byte != SPACE);
     if end == 0 {
         return None;
     }
     Some(text.split_at(end))
 }
 
-// The lines of a script, one after the other.
+// The lines of a script, one after the other. The library's `split` would give an empty line after the last line feed.
 #[derive(Clone, Copy)]
 pub struct Lines<'a> {
     script: &'a [u8],
@@ -89,7 +74,7 @@ impl<'a> Iterator for Lines<'a> {
     }
 }
 
-// The words of a line, one after the other.
+// The words of a line, one after the other. The library's `split` would give an empty word between two spaces.
 #[derive(Clone, Copy)]
 pub(crate) struct Words<'a> {
     line: &'a [u8],

@@ -1,11 +1,10 @@
-use Rattle.std.proofs.Common.{◌≡◌, length, vec_items, filter}
-use Rattle.scripts.specs.Numerals.{paired}
+use Rattle.std.proofs.Common.{vec_items, filter}
 use Rattle.scripts.specs.Words.{dark}
-use Rattle.scripts.proofs.Gathered.{onto}
+use Rattle.scripts.specs.Numerals.{paired}
+use Rattle.scripts.proofs.Gathered.{Coming}
 use Rattle.scripts.proofs.numerals.pairs.Given as goal
 
 abbrev pub invariant-pairs : goal.invariant-pairs
-invariant-pairs l = paired (filter dark l.line) ≡ onto (vec_items l.found) (paired (filter dark l.rest))
-
-abbrev pub decreases-pairs : goal.decreases-pairs
-decreases-pairs l = length l.rest
+invariant-pairs l =
+    (goal.iterator-pairs).can_next l.digits × (goal.iterator-pairs).is_finite l.digits
+    × Coming (goal.iterator-pairs).next_gives (λ y. y.now) (paired (filter dark l.line)) l.digits (vec_items l.found)
