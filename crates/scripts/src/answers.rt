@@ -2,7 +2,7 @@
 ghost use Rattle.std.specs.Prelude.{◌≡◌, ◌<◌, ◌++◌, [], ◌∷◌, IfOk, Some, codes, string_bytes, OnOk};
 ghost use Rattle.std.specs.List.{flat_map};
 ghost use Rattle.scripts.specs.Words.{words};
-ghost use Rattle.scripts.specs.Printed.{spaced, only_first, echo, place_text, token_text, value_text, answer_text, hex_digit, hex_byte, bytes_text, count_text};
+ghost use Rattle.scripts.specs.Printed.{spaced, only_first, echo, place_text, token_text, value_text, answer_text, hex_byte, bytes_text, count_text};
 
 use crate::words::{Words, front_word};
 use refusals::Refusal;
@@ -10,7 +10,8 @@ use std::alloc::{AllocError, Global};
 use std::fmt;
 use tokens::token::Token;
 
-// What a call gives, but for what it wrote into a buffer. A look for a token may find none.
+// What a call gives, but for what it wrote into a buffer. A look for a token may find none. The cases are those of a reply of
+// the crate `runs`, which stands above the streams, while scripts know no stream.
 #[derive(Clone, Copy)]
 pub enum Value {
     Done,
@@ -22,7 +23,7 @@ pub enum Value {
 // What a line answers: what its call gave, or why it was refused.
 pub type Answer = Result<Value, Refusal>;
 
-// Where a token stands in its input.
+// Where a token stands in its input. It is a type of its own, since a `write!` with more than four holes gets no proof.
 #[derive(Clone, Copy)]
 struct Place(Token);
 
@@ -70,6 +71,21 @@ impl fmt::Display for Value {
             Value::Token(None) => write!(f, "none"),
             Value::Token(Some(token)) => write!(f, "{}", Numbers(*token)),
         }
+    }
+}
+
+// Bytes in hexadecimal, of two digits each.
+#[derive(Clone, Copy)]
+struct Hexadecimal<'a>(&'a [u8]);
+
+impl<'a> fmt::Display for Hexadecimal<'a> {
+    ghost output = { λ h. Some (flat_map hex_byte h.0.now) };
+
+    fn fmt<W: fmt::Write>(&self, f: &mut fmt::Formatter<W>) -> fmt::Result {
+        for &byte in self.0 {
+            write!(f, "{byte:02x}")?;
+        }
+        Ok(())
     }
 }
 
@@ -140,29 +156,12 @@ pub fn push_bad_line(out: &mut Vec<u8>) -> Result<(), AllocError>
     out.extend_from_slice(b"BAD LINE")
 }
 
-// The hexadecimal digit of a number below 16.
-fn hex_digit(n: u8) -> u8
-    requires small { n < 16 }
-    ensures value { result ≡ hex_digit n }
-{
-    char::from_digit(u32::from(n), 16).unwrap() as u8
-}
-
-// A byte in hexadecimal.
-fn push_byte(out: &mut Vec<u8>, byte: u8) -> Result<(), AllocError>
-    ensures after { OnOk result (out.new.items ≡ out.old.items ++ hex_byte byte) }
-{
-    out.extend_from_slice(&[hex_digit(byte / 16), hex_digit(byte % 16)])
-}
-
-// Bytes in hexadecimal.
+// Bytes in hexadecimal, from a text of their own, as in `push_answer`.
 fn push_hex(out: &mut Vec<u8>, bytes: &[u8]) -> Result<(), AllocError>
     ensures after { OnOk result (out.new.items ≡ out.old.items ++ flat_map hex_byte bytes.now) }
 {
-    for byte in bytes {
-        push_byte(out, *byte)?;
-    }
-    Ok(())
+    let text = Hexadecimal(bytes).to_string(*out.allocator())?;
+    out.extend_from_slice(text.as_bytes())
 }
 
 // A colon, and then the bytes, if there are any.

@@ -31,7 +31,9 @@ pub enum Kind {
     Chars,
 }
 
-// A call of a stream. A text of characters is an interval; where a call writes, the last number is the buffer's size.
+// A call of a stream. `text` with two numbers asks a stream of characters for the text of an interval; with three it asks a
+// token stream, and the third is the size of the output, as is the last number wherever a call writes. No stream takes `reset`,
+// `all-text`, `hidden-left` and `hidden-right` yet: they are answered as a bad line.
 #[derive(Clone, Copy)]
 pub enum Call {
     Open(i32),
@@ -251,7 +253,7 @@ fn stream_line(heap: Global, line: &[u8]) -> Result<Option<Line>, AllocError>
 fn named_line(name: &[u8], found: Vec<i32>) -> Option<Line>
     ensures value { saying result ≡ name_numbers name.now (Some found.items) }
 {
-    // Tests in place of a `match`, whose last arm could not be proved: it goes on with a call.
+    // Tests in place of a `match`: its last arm, which goes on with a call, would be proved once for each byte that may differ.
     if name == b"count-ahead".as_slice() {
         Some(Line::CountAhead(found))
     } else if name == b"token".as_slice() {
