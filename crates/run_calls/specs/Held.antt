@@ -1,6 +1,5 @@
 -- A mark of a stream that someone holds. Assumes nothing.
-use Rattle.std.specs.Prelude.{◌≡◌, Bool, true, false, ℤ, Some, None, Option}
-use Rattle.tokens.specs.Tokens.{same}
+use Rattle.std.specs.Prelude.{◌≡◌, true, ℤ, Some, None, Option}
 use Rattle.streams.specs.Streams.{Status}
 use Rattle.streams.specs.Marks.{latest}
 
@@ -13,8 +12,3 @@ Held t (Some n) = (t.opened ≡ true) × (latest t.marks n ≡ true)
 abbrev pub Stays : Option ℤ → Status → Status → Type 0
 Stays None t u = Unit {0}
 Stays (Some n) t u = u ≡ t
-
--- the mark that is held has a number
-abbrev pub held_as : Option ℤ → ℤ → Bool
-held_as None n = false
-held_as (Some m) n = same m n

@@ -5,12 +5,14 @@ use crate::source::AnySource;
 use crate::text::AnyText;
 use characters::char_stream::InputData;
 use input_streams::input_stream::InputStream;
+use refusals::Refusal;
 use scripts::answers::{Value, push_answer, push_written};
 use scripts::line::Call;
 use std::alloc::AllocError;
 use streams::int_stream::IntStream;
 use token_streams::token_stream::UnbufferedTokenStream;
 use tokens::token::Token;
+use windows::window::ring::BLANK;
 
 // What became of a call: it is answered, it ends the stream, or the stream has no such call.
 #[derive(Clone, Copy)]
@@ -64,16 +66,12 @@ impl<'a> Called for UnbufferedTokenStream<AnySource<'a>> {
                 out,
                 self.get(index).map(|token| Value::Token(Some(token))),
             )?,
-            Call::Text(start, stop, room) => {
-                let mut buffer = vec![in *out.allocator(); 0xAA; room]?;
-                let count = self.get_text_from_interval(start, stop, buffer.as_mut_slice());
-                push_written(out, count, buffer.as_slice())?;
-            }
-            Call::TextOf(first, last, room) => {
-                let mut buffer = vec![in *out.allocator(); 0xAA; room]?;
-                let count = self.get_text_from_tokens(&at(first), &at(last), buffer.as_mut_slice());
-                push_written(out, count, buffer.as_slice())?;
-            }
+            Call::Text(start, stop, room) => push_filled(out, room, |buffer| {
+                self.get_text_from_interval(start, stop, buffer)
+            })?,
+            Call::TextOf(first, last, room) => push_filled(out, room, |buffer| {
+                self.get_text_from_tokens(&at(first), &at(last), buffer)
+            })?,
             Call::Close => return Ok(Taken::Closes),
             _ => return Ok(Taken::Unknown),
         }
@@ -81,15 +79,20 @@ impl<'a> Called for UnbufferedTokenStream<AnySource<'a>> {
     }
 }
 
+// What a call wrote into a buffer of a size.
+fn push_filled<F: FnOnce(&mut [u8]) -> Result<usize, Refusal>>(
+    out: &mut Vec<u8>,
+    room: usize,
+    fill: F,
+) -> Result<(), AllocError>
+    requires callable { F.IsAlwaysCallable fill }
+{
+    let mut buffer = vec![in *out.allocator(); 0xAA; room]?;
+    let count = fill(buffer.as_mut_slice());
+    push_written(out, count, buffer.as_slice())
+}
+
 // A token of which only the index counts.
 fn at(index: i32) -> Token {
-    Token {
-        token_type: 0,
-        channel: 0,
-        start: 0,
-        stop: 0,
-        line: 0,
-        column: 0,
-        index,
-    }
+    Token { index, ..BLANK }
 }

@@ -2,9 +2,11 @@
 ghost use Rattle.std.specs.Prelude.{◌≡◌, ◌<◌, ◌≤◌, true, false, length, IfOk, OnSome};
 ghost use Rattle.streams.specs.Calls.{status_with};
 ghost use Rattle.streams.specs.Marks.{latest, earlier};
-ghost use Rattle.run_calls.specs.Held.{Held, Stays, held_as};
+ghost use Rattle.run_calls.specs.Held.{Held, Stays};
 
 use crate::calls::{Called, Taken};
+use crate::made::Made;
+use crate::printer::Printer;
 use crate::session::{Exit, Session};
 use count_ahead::count_ahead;
 use refusals::Refusal;
@@ -59,42 +61,33 @@ fn ask<S: IntStream>(stream: &mut S, call: Call) -> Option<Answer>
     }
 }
 
-// Whether the mark that is held has a number.
-fn held_as(held: Option<i32>, number: i32) -> bool
-    ensures value { result ≡ held_as held number }
-{
-    held == Some(number)
-}
-
 fn take_call<'a, S: Called>(
     stream: &mut S,
-    session: &mut Session<'a>,
+    printer: &mut Printer,
     call: Call,
     held: Option<i32>,
 ) -> Result<Next<'a>, AllocError>
     requires held { Held (S.IntStream.status stream.old) held }
     ensures status { Stays held (S.IntStream.status stream.old) (S.IntStream.status stream.new) }
-    ensures same { session.new.lines ≡ session.old.lines }
 {
-    if let Call::Mark = call {
-        return Ok(Next::Mark);
-    }
-    if let Call::Release(number) = call {
-        if held_as(held, number) {
-            return Ok(Next::Leave(Exit::Release));
+    match call {
+        Call::Mark => return Ok(Next::Mark),
+        Call::Release(number) if held == Some(number) => return Ok(Next::Leave(Exit::Release)),
+        Call::Release(number) => {
+            printer.answer(release_other(stream, number).map(|()| Value::Done))?;
+            return Ok(Next::On);
         }
-        session.answer(release_other(stream, number).map(|()| Value::Done))?;
-        return Ok(Next::On);
+        _ => {}
     }
     if let Some(answer) = ask(stream, call) {
-        session.answer(answer)?;
+        printer.answer(answer)?;
         return Ok(Next::On);
     }
-    match stream.call(call, &mut session.out)? {
-        Taken::Answered => session.end_line()?,
-        Taken::Unknown => session.bad_line()?,
+    match stream.call(call, &mut printer.out)? {
+        Taken::Answered => printer.end_line()?,
+        Taken::Unknown => printer.bad_line()?,
         Taken::Closes => {
-            session.answer(Ok(Value::Done))?;
+            printer.answer(Ok(Value::Done))?;
             return Ok(Next::Leave(Exit::Close));
         }
     }
@@ -103,29 +96,27 @@ fn take_call<'a, S: Called>(
 
 fn take_line<'a, S: Called>(
     stream: &mut S,
-    session: &mut Session<'a>,
+    made: &mut Made<'a>,
+    printer: &mut Printer,
     line: &'a Line,
     held: Option<i32>,
 ) -> Result<Next<'a>, AllocError>
     requires held { Held (S.IntStream.status stream.old) held }
     ensures status { Stays held (S.IntStream.status stream.old) (S.IntStream.status stream.new) }
-    ensures same { session.new.lines ≡ session.old.lines }
 {
-    if let Some(answer) = session.make(line) {
-        session.answer(answer)?;
+    if let Some(answer) = made.make(line) {
+        printer.answer(answer)?;
         return Ok(Next::On);
     }
     match line {
-        Line::Ask(call) => take_call(stream, session, *call, held),
+        Line::Ask(call) => take_call(stream, printer, *call, held),
         Line::CountAhead(wanted) => {
-            session.answer(count_ahead(stream, wanted.as_slice()).map(Value::Count))?;
+            printer.answer(count_ahead(stream, wanted.as_slice()).map(Value::Count))?;
             Ok(Next::On)
         }
         Line::NewStream(kind) => {
-            let Some(start) = session.start(*kind)? else {
-                return Ok(Next::On);
-            };
-            Ok(Next::Leave(Exit::Stream(start)))
+            let start = made.start(*kind, printer)?;
+            Ok(start.map_or(Next::On, |start| Next::Leave(Exit::Stream(start))))
         }
         _ => Ok(Next::On),
     }
@@ -144,13 +135,13 @@ pub(crate) fn run_lines<'a, S: Called>(
     ensures no_more { length session.new.lines.now ≤ length session.old.lines.now }
 {
     'lines: while let Some(line) = session.next()? {
-        match take_line(stream, session, line, held)? {
+        match take_line(stream, &mut session.made, &mut session.printer, line, held)? {
             Next::On => {}
             Next::Leave(exit) => return Ok(Some(exit)),
             Next::Mark => match stream.mark() {
-                Err(refusal) => session.answer(Err(refusal))?,
+                Err(refusal) => session.printer.answer(Err(refusal))?,
                 Ok(mark) => match run_marked(stream, session, mark)? {
-                    Some(Exit::Release) => session.answer(Ok(Value::Done))?,
+                    Some(Exit::Release) => session.printer.answer(Ok(Value::Done))?,
                     exit => return Ok(exit),
                 },
             },
@@ -172,7 +163,7 @@ fn run_marked<'a, S: Called>(
     ensures no_more { length session.new.lines.now ≤ length session.old.lines.now }
 {
     let number = mark.number();
-    let exit = match session.answer(Ok(Value::Number(number))) {
+    let exit = match session.printer.answer(Ok(Value::Number(number))) {
         Ok(()) => run_lines(stream, session, Some(number)),
         Err(error) => Err(error),
     };

@@ -5,12 +5,15 @@ ghost use Rattle.std.specs.Prelude.{◌<◌, ◌≤◌, length, IfOk, OnSome};
 
 mod calls;
 mod levels;
+mod made;
+mod printer;
 mod session;
 mod source;
 mod text;
 
 use crate::levels::run_lines;
-use crate::session::{Exit, Session, Start};
+use crate::made::Start;
+use crate::session::{Exit, Session};
 use crate::source::AnySource;
 use crate::text::AnyText;
 use input_streams::input_stream::InputStream;
@@ -46,7 +49,7 @@ fn run_unbuffered<'a>(
     match run_lines(&mut stream, session, None)? {
         Some(Exit::Stream(start)) => Ok(Some(start)),
         Some(Exit::Close) => {
-            session.source = Some(stream.close());
+            session.made.source = Some(stream.close());
             session.without_stream()
         }
         _ => Ok(None),
@@ -72,7 +75,7 @@ fn run(rt: &HostRuntime) -> anyhow::Result<()> {
     let lines = read_script(heap, script.as_slice())?;
     let mut session = Session::new(heap, script.as_slice(), lines.as_slice());
     run_session(&mut session)?;
-    rt.stdout().write_all(session.out.as_slice())?;
+    rt.stdout().write_all(session.printer.out.as_slice())?;
     Ok(())
 }
 
