@@ -1,7 +1,7 @@
 // A script into its lines.
 ghost use Rattle.std.specs.Prelude.{◌≡◌, map, IfOk};
 ghost use Rattle.scripts.specs.Sayings.{saying};
-ghost use Rattle.scripts.specs.Scripts.{sayings};
+ghost use Rattle.scripts.specs.Scripts.{sayings, texts};
 
 use crate::line::{Line, read_line};
 use crate::words::{Lines, passed_over};
@@ -30,9 +30,20 @@ fn with_tokens(
     }
 }
 
-// What the lines of a script say, without those that are passed over.
-pub fn read_script(heap: Global, script: &[u8]) -> Result<Vec<Option<Line>>, AllocError>
-    ensures made { IfOk result (λ v. map saying v.items ≡ sayings script.now) }
+// A line of a script, and what it says: nothing where it cannot be read.
+#[derive(Drop)]
+pub struct ScriptLine<'a> {
+    pub text: &'a [u8],
+    pub line: Option<Line>,
+}
+
+// The lines of a script, without those that are passed over.
+pub fn read_script<'a>(
+    heap: Global,
+    script: &'a [u8],
+) -> Result<Vec<ScriptLine<'a>>, AllocError>
+    ensures made { IfOk result (λ v. map (λ l. saying l.line) v.items ≡ sayings script.now) }
+    ensures texts { IfOk result (λ v. map (λ l. l.text.now) v.items ≡ texts script.now) }
 {
     let mut lines = Vec::new(heap);
     let mut tokens = Vec::new(heap);
@@ -41,7 +52,10 @@ pub fn read_script(heap: Global, script: &[u8]) -> Result<Vec<Option<Line>>, All
             continue;
         }
         let line = read_line(heap, text)?;
-        lines.push(with_tokens(heap, line, &mut tokens)?)?;
+        lines.push(ScriptLine {
+            text,
+            line: with_tokens(heap, line, &mut tokens)?,
+        })?;
     }
     Ok(lines)
 }
