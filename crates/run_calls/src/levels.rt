@@ -1,8 +1,9 @@
 // The calls of a stream, while marks of it are out.
-ghost use Rattle.std.specs.Prelude.{◌≡◌, ◌<◌, ◌≤◌, true, false, length, IfOk, OnSome};
+ghost use Rattle.std.specs.Prelude.{◌≡◌, ◌≤◌, true, false, length};
 ghost use Rattle.streams.specs.Calls.{status_with};
 ghost use Rattle.streams.specs.Marks.{latest, earlier};
 ghost use Rattle.run_calls.specs.Held.{Held, Stays};
+ghost use Rattle.run_calls.specs.Shrinking.{Shrinks};
 
 use crate::calls::{Called, Taken};
 use crate::made::Made;
@@ -123,6 +124,7 @@ fn take_line<'a, S: Called>(
 }
 
 // The lines up to one that ends the calls. `held` is the number of the latest mark, which whoever called holds.
+// The three are no struct: each level has another `held`, and each call would take the stream and the session out of it.
 #[cycle(run_lines_run_marked)]
 pub(crate) fn run_lines<'a, S: Called>(
     stream: &mut S,
@@ -131,8 +133,7 @@ pub(crate) fn run_lines<'a, S: Called>(
 ) -> Result<Option<Exit<'a>>, AllocError>
     requires held { Held (S.IntStream.status stream.old) held }
     ensures status { Stays held (S.IntStream.status stream.old) (S.IntStream.status stream.new) }
-    ensures fewer { IfOk result (λ exit. OnSome exit (length session.new.lines.now < length session.old.lines.now)) }
-    ensures no_more { length session.new.lines.now ≤ length session.old.lines.now }
+    ensures lines { Shrinks result session.old.lines.rest.now session.new.lines.rest.now }
 {
     'lines: while let Some(line) = session.next()? {
         match take_line(stream, &mut session.made, &mut session.printer, line, held)? {
@@ -160,9 +161,10 @@ fn run_marked<'a, S: Called>(
     requires open { (S.IntStream.status stream.old).opened ≡ true }
     requires latest { latest (S.IntStream.status stream.old).marks mark.number ≡ true }
     ensures status { S.IntStream.status stream.new ≡ status_with (S.IntStream.status stream.old) (earlier (S.IntStream.status stream.old).marks) }
-    ensures no_more { length session.new.lines.now ≤ length session.old.lines.now }
+    ensures no_more { length session.new.lines.rest.now ≤ length session.old.lines.rest.now }
 {
     let number = mark.number();
+    // no `?`, since the mark is given back before an error leaves, and no closure, since a cycle of calls goes through none
     let exit = match session.printer.answer(Ok(Value::Number(number))) {
         Ok(()) => run_lines(stream, session, Some(number)),
         Err(error) => Err(error),

@@ -1,7 +1,7 @@
 // Runs the call script on standard input, and prints what each call answered.
 #![tactic(auto)]
 
-ghost use Rattle.std.specs.Prelude.{◌<◌, ◌≤◌, length, IfOk, OnSome};
+ghost use Rattle.run_calls.specs.Shrinking.{Shrinks};
 
 mod calls;
 mod levels;
@@ -27,8 +27,7 @@ fn run_chars<'a>(
     text: AnyText<'a>,
     session: &mut Session<'a>,
 ) -> Result<Option<Start<'a>>, AllocError>
-    ensures fewer { IfOk result (λ start. OnSome start (length session.new.lines.now < length session.old.lines.now)) }
-    ensures no_more { length session.new.lines.now ≤ length session.old.lines.now }
+    ensures lines { Shrinks result session.old.lines.rest.now session.new.lines.rest.now }
 {
     let mut stream = InputStream::new(text);
     match run_lines(&mut stream, session, None)? {
@@ -42,8 +41,7 @@ fn run_unbuffered<'a>(
     source: AnySource<'a>,
     session: &mut Session<'a>,
 ) -> Result<Option<Start<'a>>, AllocError>
-    ensures fewer { IfOk result (λ start. OnSome start (length session.new.lines.now < length session.old.lines.now)) }
-    ensures no_more { length session.new.lines.now ≤ length session.old.lines.now }
+    ensures lines { Shrinks result session.old.lines.rest.now session.new.lines.rest.now }
 {
     let mut stream = UnbufferedTokenStream::new_unbuffered(source);
     match run_lines(&mut stream, session, None)? {
@@ -73,7 +71,7 @@ fn run(rt: &HostRuntime) -> anyhow::Result<()> {
     let mut script = Vec::new(heap);
     rt.stdin().read_to_end(&mut script)?;
     let lines = read_script(heap, script.as_slice())?;
-    let mut session = Session::new(heap, script.as_slice(), lines.as_slice());
+    let mut session = Session::new(heap, lines.as_slice());
     run_session(&mut session)?;
     rt.stdout().write_all(session.printer.out.as_slice())?;
     Ok(())

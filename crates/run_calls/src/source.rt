@@ -14,6 +14,8 @@ pub enum AnySource<'a> {
     Sheet(SheetLexer<AnyText<'a>>),
 }
 
+// Each method asks the source of the kind at hand: an enum has no shorter form for that, and a `dyn` value would have to
+// be lent, while a stream owns its source and hands it out when it is closed.
 impl<'a> TokenSource for AnySource<'a> {
     ghost coming = { elim [
       | List s ↦ ⟦<ListSource<'a> as TokenSource>⟧.coming s

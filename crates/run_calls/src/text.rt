@@ -69,6 +69,8 @@ impl<'a> AnyText<'a> {
     }
 }
 
+// Each method asks the text of the kind at hand: an enum has no shorter form for that, and `part` makes a text of its own
+// kind, which a `dyn` value cannot.
 impl<'a> InputData for AnyText<'a> {
     ghost meaning = { elim [
       | Utf8 t ↦ ⟦<Utf8Text<'a> as InputData>⟧.meaning t
