@@ -38,10 +38,7 @@ pub struct ScriptLine<'a> {
 }
 
 // The lines of a script, without those that are passed over.
-pub fn read_script<'a>(
-    heap: Global,
-    script: &'a [u8],
-) -> Result<Vec<ScriptLine<'a>>, AllocError>
+pub fn read_script<'a>(heap: Global, script: &'a [u8]) -> Result<Vec<ScriptLine<'a>>, AllocError>
     ensures made { IfOk result (λ v. map (λ l. saying l.line) v.items ≡ sayings script.now) }
     ensures texts { IfOk result (λ v. map (λ l. l.text.now) v.items ≡ texts script.now) }
 {
