@@ -164,7 +164,8 @@ fn run_marked<'a, S: Called>(
     ensures no_more { length session.new.lines.rest.now ≤ length session.old.lines.rest.now }
 {
     let number = mark.number();
-    // no `?`, since the mark is given back before an error leaves, and no closure, since a cycle of calls goes through none
+    // no `?`, since the mark is given back before an error leaves; and `and_then` is no plainer, since its closure would
+    // need clauses and a measure of its own in this cycle of calls
     let exit = match session.printer.answer(Ok(Value::Number(number))) {
         Ok(()) => run_lines(stream, session, Some(number)),
         Err(error) => Err(error),
