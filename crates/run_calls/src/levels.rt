@@ -27,7 +27,7 @@ enum Next<'a> {
 
 // Gives the latest mark back.
 fn give_back<S: IntStream>(stream: &mut S, mark: Mark)
-    requires open { (S.IntStream.status stream.old).opened ≡ true }
+    requires opened { (S.IntStream.status stream.old).opened ≡ true }
     requires latest { latest (S.IntStream.status stream.old).marks mark.number ≡ true }
     ensures status { S.IntStream.status stream.new ≡ status_with (S.IntStream.status stream.old) (earlier (S.IntStream.status stream.old).marks) }
 {
@@ -158,14 +158,14 @@ fn run_marked<'a, S: Called>(
     session: &mut Session<'a>,
     mark: Mark,
 ) -> Result<Option<Exit<'a>>, AllocError>
-    requires open { (S.IntStream.status stream.old).opened ≡ true }
+    requires opened { (S.IntStream.status stream.old).opened ≡ true }
     requires latest { latest (S.IntStream.status stream.old).marks mark.number ≡ true }
     ensures status { S.IntStream.status stream.new ≡ status_with (S.IntStream.status stream.old) (earlier (S.IntStream.status stream.old).marks) }
     ensures no_more { length session.new.lines.rest.now ≤ length session.old.lines.rest.now }
 {
     let number = mark.number();
-    // no `?`, since the mark is given back before an error leaves; and `and_then` is no plainer, since its closure would
-    // need clauses and a measure of its own in this cycle of calls
+    // No `?`, since the mark is given back before an error leaves, and no `and_then`, whose closure would need a measure of its
+    // own in this cycle of calls.
     let exit = match session.printer.answer(Ok(Value::Number(number))) {
         Ok(()) => run_lines(stream, session, Some(number)),
         Err(error) => Err(error),

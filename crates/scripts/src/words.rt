@@ -10,7 +10,7 @@ const LINE_FEED: u8 = b'\n';
 
 // How many bytes of a text come before the first at which its front does not go on, or before its end.
 fn front_len<F: Fn(u8) -> bool>(text: &[u8], goes_on: F) -> usize
-    requires { F.IsAlwaysCallable goes_on }
+    requires callable { F.IsAlwaysCallable goes_on }
     ensures value { (p : ℕ → Bool) → ((byte : ℕ) (r : Bool) → F.post goes_on byte r → r ≡ p byte) → result ≡ prefix_len p text.now }
     ensures inside { result ≤ length text.now }
 {
@@ -51,7 +51,7 @@ pub struct Lines<'a> {
 
 impl<'a> Lines<'a> {
     pub fn of(script: &'a [u8]) -> Self
-        ensures { result.script.now ≡ script.now }
+        ensures script { result.script.now ≡ script.now }
     {
         Lines { script }
     }
@@ -82,7 +82,7 @@ pub(crate) struct Words<'a> {
 
 impl<'a> Words<'a> {
     pub(crate) fn of(line: &'a [u8]) -> Self
-        ensures { result.line.now ≡ line.now }
+        ensures line { result.line.now ≡ line.now }
     {
         Words { line }
     }
