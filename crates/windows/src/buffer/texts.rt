@@ -69,9 +69,7 @@ impl<S: TokenSource> Buffer<S> {
                 return len;
             };
             let end = len + self.source.text_len(&token);
-            self.source
-                .write_text(&token, &mut out[len..end])
-                .unwrap();
+            self.source.write_text(&token, &mut out[len..end]).unwrap();
             len = end;
         }
         len
