@@ -135,7 +135,7 @@ pub trait InputData: Sized {
         Some(at as i32)
     }
 
-    // Whether the text has the code points that start from `start` through `stop`.
+    // Whether the text has the code points that start from `start` through `stop`, two numbers as the interface has them.
     fn check_interval(&self, start: i32, stop: i32) -> Result<(), Refusal>
         ensures value { answer result ≡ interval_check (meaning self.now) start stop }
     {

@@ -51,7 +51,7 @@ impl Class {
         self as i32
     }
 
-    // The channel of those tokens: space and remarks hide from a parser, each on its own.
+    // The channel of those tokens, a number as the interface has it: space and remarks hide from a parser, each on its own.
     pub fn channel(self) -> i32
         ensures value { result ≡ pos (channel (type_of self)) }
     {

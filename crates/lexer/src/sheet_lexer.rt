@@ -19,7 +19,7 @@ use tokens::token_source::TokenSource;
 
 const POINT: u32 = '.' as u32;
 
-// Symbols passed over: where they end, and how many they are.
+// Symbols passed over: where they end, and how many they are. An input is read by positions, so that there is no slice to keep.
 #[derive(Clone, Copy)]
 struct Piece {
     end: usize,

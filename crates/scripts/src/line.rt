@@ -1,4 +1,4 @@
-// What a line of a script says.
+// What a line of a script says. Each reader takes the heap and a line: a struct of the two would only be taken apart again.
 ghost use Rattle.std.specs.Prelude.{◌≡◌, [], ◌∷◌, IfOk, Some};
 ghost use Rattle.std.specs.Option.{option_map};
 ghost use Rattle.scripts.specs.Words.{words};

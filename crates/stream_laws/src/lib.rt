@@ -1,4 +1,4 @@
-// Laws that every stream of symbols keeps, each on the calls that it speaks of.
+// Laws that every stream of symbols keeps, each on the calls that it speaks of. What a law leaves as it was, it says as calls do.
 #![tactic(auto)]
 
 ghost use Rattle.std.specs.Prelude.{◌≡◌, ℕ, length, ℤ, pos, negsuc, ◌≤ℤ◌, ◌<ℤ◌, IfOk};

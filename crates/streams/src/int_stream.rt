@@ -12,9 +12,10 @@ use refusals::Refusal;
 pub const EOF: i32 = -1;
 
 // A stream that has dropped symbols no longer has them all, so a contract here speaks of every stream of symbols that
-// this one shows. A stream that is made shows one, and what it shows changes as the clauses `after` say, no more.
+// this one shows. A stream that is made shows one, and what it shows changes as the clauses `after` say, no more. What a call
+// leaves as it was, a clause of its own says: it is about two values, so that no type can hold it.
 pub trait IntStream: Sized {
-    // what a look back answers where nothing is
+    // what a look back answers where nothing is: each kind of stream has its number, as the interface asks
     const NOTHING_BEFORE: i32;
 
     ghost NOTHING_BEFORE: { ℤ };

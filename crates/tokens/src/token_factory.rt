@@ -1,4 +1,4 @@
-// The text of a token that spans a part of an input.
+// The text of a token that spans a part of an input. Each call takes the input and the token, which no value holds together.
 ghost use Rattle.std.specs.Prelude.{◌≡◌, cond, not, ◌&&◌, Some, None, length};
 ghost use Rattle.std.specs.Option.{option_map};
 ghost use Rattle.refusals.specs.Answers.{answer};

@@ -13,6 +13,7 @@ use tokens::token_source::{MOST_TOKENS, TokenSource};
 
 mod texts;
 
+// A pull changes no text, which each call that pulls says for itself.
 #[derive(Drop)]
 pub struct Buffer<S> {
     pub source: S,

@@ -18,7 +18,7 @@ use tokens::token::Token;
 use tokens::token_source::TokenSource;
 use windows::buffer::Buffer;
 
-// The type that a look back answers where no token is.
+// The type that a look back answers where no token is, as the interface numbers it.
 pub const TOKEN_INVALID_TYPE: i32 = 0;
 
 // The type of a token, or of none.
