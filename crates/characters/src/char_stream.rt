@@ -80,7 +80,8 @@ pub trait InputData: Sized {
     fn start_before(&self, at: usize) -> Option<usize>
         ensures value { result ≡ back (meaning self.now) at 1 };
 
-    // The code points from one start to another, as a text of its own; none where these are no two starts in order.
+    // The code points from one start to another, as a text of its own; none where these are no two starts in order. A `Range` of
+    // the two would only be taken apart.
     fn part(&self, from: usize, to: usize) -> Self
         ensures value { meaning result ≡ (if cuts (meaning self.now) from to then part (meaning self.now) from to else empty) };
 

@@ -121,6 +121,7 @@ impl<D: InputData> InputStream<D> {
 impl<D: InputData> IntStream for InputStream<D> {
     ghost use Rattle.input_streams.specs.Shown.{marks_of, Shown};
 
+    // As the interface numbers it.
     const NOTHING_BEFORE: i32 = -1;
 
     ghost NOTHING_BEFORE = { negsuc 0 };

@@ -35,8 +35,8 @@ struct Cursor<'a, D: InputData> {
 }
 
 impl<'a, D: InputData> Cursor<'a, D> {
-    // Passes over the symbols that a run goes on with, and counts them: one walk gives both, where a chain would walk twice. It
-    // takes the class, and no closure: each would only call `goes_on`.
+    // Passes over the symbols that a run goes on with, and counts them. A chain would want an iterator of code points that says what
+    // it yields and that it ends, which is longer than this walk. It takes the class, and no closure: each would only call `goes_on`.
     fn run(&self, class: Class) -> Piece
         ensures passed { Passed (D.InputData.meaning self.now.input.now) self.now.at (prefix_len (goes_on class) (rest (D.InputData.meaning self.now.input.now) self.now.at)) result.end result.count }
     {
@@ -88,7 +88,7 @@ impl<'a, D: InputData> Cursor<'a, D> {
     }
 }
 
-// The lexer stands at a start, on a line and in a column. No ghost field says that it is a start: its meaning covers the other
+// The lexer stands at a start, on a line and in a column; an input is read by positions. No ghost field says that it is a start: its meaning covers the other
 // positions too, from which only the EOF comes.
 #[derive(Drop)]
 pub struct SheetLexer<D> {

@@ -92,7 +92,7 @@ fn push_filled<F: FnOnce(&mut [u8]) -> Result<usize, Refusal>>(
     push_written(out, count, buffer.as_slice())
 }
 
-// A token of which only the index counts.
+// A token of which only the index counts: the call takes tokens, as the interface has it.
 fn at(index: i32) -> Token {
     Token { index, ..BLANK }
 }

@@ -33,7 +33,8 @@ impl<'a> Session<'a> {
         }
     }
 
-    // Takes the next line that says something, and prints its words. Those before it are answered.
+    // Takes the next line that says something, and prints its words. Those before it are answered. That lines are taken is said
+    // again by each that takes them: the loop over streams ends by it.
     pub(crate) fn next(&mut self) -> Result<Option<&'a Line>, AllocError>
         ensures lines { Shrinks result self.old.lines.rest.now self.new.lines.rest.now }
     {

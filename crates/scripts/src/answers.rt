@@ -11,7 +11,7 @@ use std::fmt;
 use tokens::token::Token;
 
 // What a call gives, but for what it wrote into a buffer. A look for a token may find none. The cases are those of a reply of
-// the crate `runs`, which stands above the streams, while scripts know no stream.
+// the crate `runs`: one enum for both would stand in a crate below them, and the texts that a script prints with it.
 #[derive(Clone, Copy)]
 pub enum Value {
     Done,

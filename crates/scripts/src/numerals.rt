@@ -67,7 +67,7 @@ impl Numeral for u32 {
     }
 }
 
-// The numerals that the words of a line write, if each writes one.
+// The numerals that the words of a line write, if each writes one. That one does not is an answer, and no error that `?` gives.
 pub fn numerals<T: Numeral>(heap: Global, line: &[u8]) -> Result<Option<Vec<T>>, AllocError>
     ensures made { IfOk result (λ o. option_map vec_items o ≡ every T.reads (words line.now)) }
 {

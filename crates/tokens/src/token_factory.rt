@@ -43,10 +43,7 @@ fn shown<D: InputData + Drop>(input: &D, token: &Token) -> Option<D>
 pub fn span_text_len<D: InputData + Drop>(input: &D, token: &Token) -> usize
     ensures value { result ≡ length (span_text (D.InputData.meaning input.now) token.now) }
 {
-    match shown(input, token) {
-        Some(text) => text.display_len(),
-        None => EOF_TEXT.len(),
-    }
+    shown(input, token).map_or(EOF_TEXT.len(), |text| text.display_len())
 }
 
 // Writes the text of a token.

@@ -45,7 +45,7 @@ pub fn front(bytes: &[u8]) -> Option<(u32, &[u8])>
     }
 }
 
-// The longer forms have a function each: a slice pattern names the bytes of one length.
+// The first byte's ones choose the form, as the standard counts them. Each longer form has a function, whose pattern names its bytes.
 fn two(bytes: &[u8]) -> Option<(u32, &[u8])>
     requires lead { IsInRange 0xC0 0xDF (slice_index bytes.now 0) }
     ensures cases { Front bytes.now result }

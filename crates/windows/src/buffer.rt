@@ -13,7 +13,7 @@ use tokens::token_source::{MOST_TOKENS, TokenSource};
 
 mod texts;
 
-// A pull changes no text, which each call that pulls says for itself.
+// That no text changes, each call that pulls says for itself: it is about two values, so that no type holds it.
 #[derive(Drop)]
 pub struct Buffer<S> {
     pub source: S,

@@ -58,6 +58,7 @@ impl Numbering {
     }
 }
 
+// What stays, and what comes back, each call says for itself: it is about two values, so that no type holds it.
 impl Marks {
     // No mark is out.
     pub fn new(numbering: Numbering) -> Self

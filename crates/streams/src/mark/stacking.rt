@@ -7,6 +7,7 @@ ghost use Rattle.streams.specs.Marks.{top, piling, released, HandedBack};
 use crate::mark::{Kept, Mark, Numbering, Pile};
 use refusals::Refusal;
 
+// What stays, and what comes back, each call says for itself: it is about two values, so that no type holds it.
 impl Pile {
     // No mark, of a stream that numbers its marks so.
     pub fn new(numbering: Numbering) -> Self

@@ -28,6 +28,7 @@ fn type_of(token: Option<Token>) -> i32
     token.map_or(TOKEN_INVALID_TYPE, |token| token.token_type)
 }
 
+// That the status stays, each call says for itself: it is about two values, so that no type holds it.
 impl<S: TokenSource> UnbufferedTokenStream<S> {
     // A stream over a source, not open yet.
     pub fn new_unbuffered(token_source: S) -> Self

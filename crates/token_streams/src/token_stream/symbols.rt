@@ -14,6 +14,7 @@ use streams::mark::{Kept, Mark};
 use tokens::token_source::TokenSource;
 
 impl<S: TokenSource> IntStream for UnbufferedTokenStream<S> {
+    // As the interface numbers it.
     const NOTHING_BEFORE: i32 = TOKEN_INVALID_TYPE;
 
     ghost NOTHING_BEFORE = { pos 0 };

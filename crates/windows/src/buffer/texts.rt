@@ -38,7 +38,7 @@ impl<S: TokenSource> Buffer<S> {
     }
 
     // Whether the texts of the tokens from one index on and below another fit a room. The two are no `Range`, which would be
-    // cloned for each of the walks.
+    // cloned for each of the walks. The proof of a `try_fold` would not know what one turn hands to the next.
     fn fits(&self, from: usize, to: usize, room: usize) -> bool
         requires held { self.now.window.start ≤ from }
         ensures value { result ≡ not (nat_lt room (length (texts_between (S.TokenSource.text self.now.source) self.now.window from to))) }
