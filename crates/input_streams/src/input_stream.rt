@@ -2,7 +2,7 @@
 ghost use Rattle.std.specs.Prelude.{◌≡◌, ℕ, ◌≤◌, [], negsuc, refl};
 ghost use Rattle.std.proofs.Common.{◌∙◌};
 ghost use Rattle.refusals.specs.Answers.{answer};
-ghost use Rattle.characters.specs.Text.{on, back, start_from};
+ghost use Rattle.characters.specs.Text.{on, back};
 ghost use Rattle.characters.specs.Signed.{interval_check, interval};
 ghost use Rattle.streams.specs.Streams.{Stream, moved};
 ghost use Rattle.streams.specs.Marks.{numbered};
@@ -20,13 +20,13 @@ use texts::utf8_text::Utf8Text;
 // The number of every mark.
 const MARK_NUMBER: i32 = -1;
 
-// The cursor is on the symbol at `index`, which is a start of the text.
+// The cursor is on the symbol at `index`, which is a start of the text: `Shows` says this, since a ghost field that says it
+// asks for `D: InputData` wherever the type is named.
 #[derive(Drop)]
-pub struct InputStream<D: InputData> {
+pub struct InputStream<D> {
     text: D,
     index: usize,
     marks: Marks,
-    ghost start: { start_from (D.InputData.meaning text) index ≡ index },
     ghost inside: { index ≤ 65536 },
     ghost alike: { (n : ℕ) → numbered marks.numbering n ≡ negsuc 0 },
 }
@@ -49,7 +49,7 @@ impl<D: InputData> InputStream<D> {
 
     // A stream at the front of a text.
     pub fn new(text: D) -> Self
-        ensures shows { Shown result (characters (D.InputData.meaning text) [] 0) }
+        ensures shows { Shown D.InputData result (characters (D.InputData.meaning text) [] 0) }
         ensures text { result.text ≡ text }
     {
         let index = text.start_from(0);
@@ -62,7 +62,7 @@ impl<D: InputData> InputStream<D> {
 
     // Back to the first symbol.
     pub fn reset(&mut self)
-        ensures after { (s : Stream) → Shown self.old s → Shown self.new (moved s 0) }
+        ensures after { (s : Stream) → Shown D.InputData self.old s → Shown D.InputData self.new (moved s 0) }
         ensures marks { self.new.marks ≡ self.old.marks }
         ensures unaltered { self.old.text ≡ self.new.text }
     {
@@ -132,7 +132,7 @@ impl<D: InputData> IntStream for InputStream<D> {
 
     ghost extent = { λ x. (D.InputData.meaning x.text).size };
 
-    ghost shows = { λ x. Shown x };
+    ghost shows = { λ x. Shown D.InputData x };
 
     ghost lawful = { λ x. shown_lawful (D.InputData.meaning x.text) (D.InputData.lawful x.text) x.index (marks_of x) };
 

@@ -1,12 +1,11 @@
-use Rattle.input_streams.proofs.Moves.{start_is, start_small, is_reset}
+use Rattle.input_streams.proofs.Moves.{start_small, is_reset}
 use Rattle.input_streams.proofs.input_stream.InputStream.reset.Goals as goal
 
 pub invariant_of-self : goal.invariant_of-self
 invariant_of-self g c =
     let input = g.D.InputData in
     let self = c.args.self.now in
-    let at = c.start_from-self.ensures.value in
-    record { start = start_is (input.meaning self.text) (input.lawful self.text) _ 0 at; inside = start_small (input.meaning self.text) (input.lawful self.text) _ 0 at; alike = self.alike }
+    record { inside = start_small (input.meaning self.text) (input.lawful self.text) _ _ c.start_from-self.ensures.value; alike = self.alike }
 
 pub returns-clause-after : goal.returns-clause-after
 returns-clause-after g c = λ s shown.

@@ -3,7 +3,7 @@ use Rattle.std.specs.Option.{option_map}
 use Rattle.refusals.specs.Answers.{answer, refuses}
 use Rattle.characters.specs.declared.char_stream.CodePoint.{CodePoint}
 use Rattle.characters.specs.Text.{item_at, start_from}
-use Rattle.input_streams.proofs.Moves.{start_is, start_small, not_consumed, is_consumed}
+use Rattle.input_streams.proofs.Moves.{start_small, not_consumed, is_consumed}
 use Rattle.input_streams.proofs.input_stream.InputStreamIntStream.consume.Goals as goal
 
 pub returns-in_err-point : goal.returns-in_err-point
@@ -24,7 +24,7 @@ invariant_of-self-2 g c =
     let input = g.D.InputData in
     let self = c.args.self.now in
     let next : c.in_ok-point.point.next ≡ start_from (input.meaning self.text) (suc self.index) = subst (λ o. IfSome o (λ p. p.next ≡ start_from (input.meaning self.text) (suc self.index))) c.in_ok-point.ensures.ok_part c.code_point.ensures.next in
-    record { start = start_is (input.meaning self.text) (input.lawful self.text) _ _ next; inside = start_small (input.meaning self.text) (input.lawful self.text) _ _ next; alike = self.alike }
+    record { inside = start_small (input.meaning self.text) (input.lawful self.text) _ _ next; alike = self.alike }
 
 pub returns : goal.returns
 returns g c =
