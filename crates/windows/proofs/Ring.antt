@@ -1,5 +1,5 @@
 -- A row of indexes in a ring of places. Assumes nothing.
-use Rattle.std.proofs.Common.{◌≡◌, ℕ, zero, suc, ◌+◌, ◌-◌, ◌%◌, ◌<◌, ◌≤◌, min, max, true, false, ltb, leb, ◌≢◌, ◌⊎◌, List, [], ◌∷◌, ◌++◌, length, get_or, drop, set, Some, None, sym, refl, ap, ◌∙◌, ⊎_elim, add-zero, arith}
+use Rattle.std.proofs.Common.{◌≡◌, ℕ, zero, suc, ◌+◌, ◌-◌, ◌%◌, ◌<◌, ◌≤◌, min, max, true, false, ltb, leb, ◌≢◌, ◌⊎◌, List, [], ◌∷◌, ◌++◌, length, get_or, drop, set, Some, None, sym, refl, ap, ◌∙◌, subst, ⊎_elim, add-zero, arith}
 use Rattle.std.specs.List.{slice_get}
 use Rattle.std.proofs.lemmas.List.{get_or-set_same, get_or-set_other, set-set}
 use Rattle.std.proofs.lemmas.List.FromFn.{length-map-range_with_len, get_or-map-range_with_len, map-range_with_len_more}
@@ -7,7 +7,9 @@ use Rattle.std.proofs.lemmas.Option.{slice_get-get_or, slice_get_past}
 use Rattle.std.proofs.lemmas.Bool.{le-leb, lt-leb, le-ltb, lt-ltb, cond-true, cond-false, or_left, or_right, or_from, cases_lt}
 use Rattle.tokens.specs.declared.token.Token.{Token}
 use Rattle.windows.specs.Lists.{stamped, blank}
-use Rattle.windows.specs.Windows.{View, ring, end, full, pushed, token_of, without}
+use Rattle.windows.specs.declared.window.Window.TheInside.{Inside}
+use Rattle.windows.specs.Places.{view_of, Kept}
+use Rattle.windows.specs.Windows.{View, ring, end, Bounded, full, pushed, token_of, without}
 
 pub length_ring : (places : List Token) (start n : ℕ) → length (ring places start n) ≡ n
 length_ring places start n = length-map-range_with_len (λ i. get_or places (i % 2048) blank) start n
@@ -67,6 +69,9 @@ module _ (places : List Token) (capacity start last : ℕ) (ordered : start ≤ 
   length_seen : length (ring places start (last - start)) ≡ last - start
   length_seen = length_ring places start (last - start)
 
+  pub seen_bounded : capacity ≤ 2048 → last ≤ start + 2048 → last ≤ 1048576 → Bounded (seen places capacity start last)
+  seen_bounded admits fits few = record { fits = omega (arith, length_seen); few = omega (arith, length_seen); admits = admits }
+
   -- a token that finds no place, or comes too late, changes nothing
   kept : (k : Token) → full (seen places capacity start last) ≡ true → seen places capacity start last ≡ pushed (seen places capacity start last) k
   kept k e =
@@ -120,3 +125,7 @@ module _ (places : List Token) (capacity start last : ℕ) (ordered : start ≤ 
   drop_held i s e =
       let on : s ≡ start + min (i - start) (last - start) = omega (arith, e) in
       ap (λ s. seen places capacity s last) on ∙ without_is i (min (i - start) (last - start)) (ap (min (i - start)) (sym length_seen))
+
+-- what every window keeps, by its view
+pub kept_bounded : (w : Inside) (v : View) → Kept w → view_of w ≡ v → Bounded v
+kept_bounded w v k is = subst Bounded is (seen_bounded w.places w.capacity w.start w.end k.ordered k.admitted k.fits k.few)

@@ -1,5 +1,5 @@
 -- What a window holds. Assumes nothing.
-use Rattle.std.specs.Prelude.{ℕ, ◌+◌, ◌-◌, ◌%◌, min, Bool, cond, ◌||◌, List, [], ◌∷◌, ◌++◌, map, length, drop, ℤ, pos, None, Option, int_lt, nat_le, nat_lt, slice_index_or}
+use Rattle.std.specs.Prelude.{ℕ, ◌+◌, ◌-◌, ◌%◌, ◌≤◌, min, Bool, cond, ◌||◌, List, [], ◌∷◌, ◌++◌, map, length, drop, ℤ, pos, None, Option, int_lt, nat_le, nat_lt, slice_index_or}
 use Rattle.std.specs.List.{slice_get, range_with_len}
 use Rattle.refusals.specs.Answers.{Answer, gives, unless, if_given}
 use Rattle.characters.specs.Signed.{upward}
@@ -23,6 +23,13 @@ end v = v.start + length v.tokens
 -- the index that no pull goes to or beyond
 abbrev pub reach : View → ℕ
 reach v = v.start + v.capacity
+
+-- what is so of every window: it holds at most 2,048 tokens, none with an index of 1,048,576 or above, and admits at most
+-- 2,048 places
+pub record Bounded (v : View) : Type 0 where
+  pub fits : length v.tokens ≤ 2048
+  pub few : end v ≤ 1048576
+  pub admits : v.capacity ≤ 2048
 
 abbrev pub with_tokens : View → List Token → View
 with_tokens v ks = record { start = v.start; tokens = ks; capacity = v.capacity }

@@ -2,7 +2,7 @@
 ghost use Rattle.std.specs.Prelude.{◌≡◌, ◌<◌, ◌≤◌, true, List, [], length, IfSome};
 ghost use Rattle.refusals.specs.Answers.{answer};
 ghost use Rattle.tokens.specs.declared.token.Token.{Token};
-ghost use Rattle.windows.specs.Windows.{end};
+ghost use Rattle.windows.specs.Windows.{end, Bounded};
 ghost use Rattle.windows.specs.Held.{Holds, Pulled, at_end, wants, pulled_to, within_reach, seen_now, seen_at};
 ghost use Rattle.windows.specs.Reads.{token_found, token_answer};
 
@@ -13,11 +13,13 @@ use tokens::token_source::{MOST_TOKENS, TokenSource};
 
 mod texts;
 
-// That no text changes, each call that pulls says for itself: it is about two values, so that no type holds it.
+// What a window's calls say of it, a buffer's type says of the window that it holds. That no text changes, each call that
+// pulls says for itself: it is about two values, so that no type holds it.
 #[derive(Drop)]
 pub struct Buffer<S> {
     pub source: S,
     pub window: Window,
+    ghost bounds: { Bounded window },
 }
 
 impl<S: TokenSource> Buffer<S> {

@@ -1,7 +1,7 @@
 // A window's calls.
 ghost use Rattle.std.specs.Prelude.{◌≡◌, ◌<◌, ◌≤◌, [], length, OnSome};
 ghost use Rattle.refusals.specs.Answers.{answer};
-ghost use Rattle.windows.specs.Windows.{end, reach, admission, admitted, pushed, token_of, without};
+ghost use Rattle.windows.specs.Windows.{end, reach, Bounded, admission, admitted, pushed, token_of, without};
 
 use crate::window::Window;
 use refusals::Refusal;
@@ -29,6 +29,7 @@ impl Window {
     // A window that holds nothing and admits no place yet.
     pub fn new() -> Self
         ensures value { result ≡ record { start = 0; tokens = []; capacity = 0 } }
+        ensures bounds { Bounded result }
     {
         Window {
             places: [BLANK; PLACES],
@@ -42,6 +43,7 @@ impl Window {
     pub fn start(&self) -> usize
         ensures value { result ≡ self.now.start }
         ensures few { result ≤ 1048576 }
+        ensures bounds { Bounded self.now }
     {
         self.start
     }
@@ -51,6 +53,7 @@ impl Window {
         ensures value { result ≡ end self.now }
         ensures few { result ≤ 1048576 }
         ensures places { length self.now.tokens ≤ 2048 }
+        ensures bounds { Bounded self.now }
     {
         self.end
     }
@@ -59,6 +62,7 @@ impl Window {
     pub fn reach(&self) -> usize
         ensures value { result ≡ reach self.now }
         ensures admitted { self.now.capacity ≤ 2048 }
+        ensures bounds { Bounded self.now }
     {
         self.start + self.capacity
     }
@@ -67,7 +71,10 @@ impl Window {
     pub fn admit(&mut self, capacity: i32) -> Result<(), Refusal>
         ensures value { answer result ≡ admission capacity }
         ensures after { self.new ≡ admitted self.old capacity }
+        ensures bounds { Bounded self.new }
     {
+        // What is so of every window is known once a field is used, and a refusal says it too.
+        let _ = &self.capacity;
         if !(LEAST_CAPACITY..=MOST_CAPACITY).contains(&capacity) {
             return Err(Refusal::Capacity);
         }
@@ -78,6 +85,7 @@ impl Window {
     // Takes a token in and stamps it with its index, if there is a place for it.
     pub fn push(&mut self, token: Token)
         ensures after { self.new ≡ pushed self.old token }
+        ensures bounds { Bounded self.new }
     {
         if self.end - self.start >= PLACES || self.end >= MOST_TOKENS {
             return;
@@ -93,6 +101,7 @@ impl Window {
     pub fn get(&self, index: usize) -> Option<Token>
         ensures value { result ≡ token_of self.now index }
         ensures few { OnSome result (index < 1048576) }
+        ensures bounds { Bounded self.now }
     {
         if !(self.start..self.end).contains(&index) {
             return None;
@@ -103,6 +112,7 @@ impl Window {
     // Lets the tokens below an index go.
     pub fn drop_below(&mut self, index: usize)
         ensures after { self.new ≡ without self.old index }
+        ensures bounds { Bounded self.new }
     {
         self.start = index.clamp(self.start, self.end);
     }

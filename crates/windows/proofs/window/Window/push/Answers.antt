@@ -1,9 +1,9 @@
-use Rattle.std.proofs.Common.{◌≡◌, ◌%◌, ◌<◌, length, pos, sym, ap, ◌∙◌, arith, w32, to_z}
+use Rattle.std.proofs.Common.{◌≡◌, ◌+◌, ◌%◌, ◌<◌, length, pos, sym, ap, ◌∙◌, arith, w32, to_z}
 use Rattle.std.proofs.lemmas.Int.{ints}
 use Rattle.std.proofs.lemmas.List.{get_or-set_same}
 use Rattle.tokens.specs.Tokens.{with_index}
 use Rattle.windows.specs.Windows.{pushed}
-use Rattle.windows.proofs.Ring.{seen, push_full, push_late, push_one}
+use Rattle.windows.proofs.Ring.{seen, seen_bounded, push_full, push_late, push_one, kept_bounded}
 use Rattle.windows.proofs.window.Window.push.Goals.{then-self-ge-PLACES-via-then-self-ge-PLACES, then-self-ge-PLACES-via-else-self-ge-PLACES+then-self-ge-MOST_TOKENS}
 use Rattle.windows.proofs.window.Window.push.Goals as goal
 
@@ -15,7 +15,10 @@ returns-then-self-ge-PLACES c =
       | then-self-ge-PLACES-via-then-self-ge-PLACES w ↦ push_full self.places self.capacity self.start self.end c.self.invariant.ordered c.args.token (omega arith)
       | then-self-ge-PLACES-via-else-self-ge-PLACES+then-self-ge-MOST_TOKENS w ↦ push_late self.places self.capacity self.start self.end c.self.invariant.ordered c.args.token (omega arith)
     ] in
-    record { after = sym c.self.view_is ∙ kept ∙ ap (λ v. pushed v c.args.token) c.self.view_is }
+    record {
+      after = sym c.self.view_is ∙ kept ∙ ap (λ v. pushed v c.args.token) c.self.view_is;
+      bounds = kept_bounded self _ c.self.invariant c.self.view_is;
+    }
 
 pub returns : goal.returns
 returns c =
@@ -27,4 +30,5 @@ returns c =
       after =
           push_one self.places self.capacity self.start self.end c.self.invariant.ordered c.args.token c.args.token _ c.self.invariant.whole (omega arith) (omega arith)
           (c.set_token_index.ensures.after ∙ (λ i. with_index (number i) (lent i))) ∙ ap (λ v. pushed v c.args.token) c.self.view_is;
+      bounds = seen_bounded _ self.capacity self.start (self.end + 1) (omega (arith, c.self.invariant.ordered)) c.self.invariant.admitted (omega arith) (omega arith);
     }

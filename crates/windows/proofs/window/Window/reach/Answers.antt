@@ -1,0 +1,5 @@
+use Rattle.windows.proofs.Ring.{kept_bounded}
+use Rattle.windows.proofs.window.Window.reach.Goals as goal
+
+pub returns-clause-bounds : goal.returns-clause-bounds
+returns-clause-bounds c = kept_bounded c.self.inside _ c.self.invariant c.self.view_is
