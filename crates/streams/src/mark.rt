@@ -1,5 +1,5 @@
 // A mark keeps what a stream may go back to, until it is given back.
-ghost use Rattle.std.specs.Prelude.{◌≡◌, true};
+ghost use Rattle.std.specs.Prelude.{◌≡◌, ◌≤◌, true};
 
 use refusals::Refusal;
 
@@ -39,11 +39,12 @@ pub enum Numbering {
     Falling,
 }
 
-// The marks of one stream that are out: no more than a `u8` counts.
+// The marks of one stream that are out: no more than a `u8` counts, which contracts and other crates know by `few` alone.
 #[derive(Drop)]
 pub struct Marks {
     numbering: Numbering,
     out: u8,
+    ghost few: { out ≤ 255 },
 }
 
 // Marks that a stream gave, kept one upon the other. They are still to be given back: a pile can be let go only when it is
@@ -52,6 +53,7 @@ pub struct Marks {
 pub struct Pile {
     numbering: Numbering,
     len: u8,
+    ghost few: { len ≤ 255 },
 }
 
 impl Drop for Pile {
