@@ -6,7 +6,7 @@ use Rattle.refusals.specs.declared.Refusal.{Refusal}
 use Rattle.refusals.specs.Numbers.{number}
 use Rattle.refusals.specs.Answers.{Answer, gives, refuses, answer, unless, if_given}
 use Rattle.streams.specs.Streams.{Stream, is_eof, last_of, ahead, beyond, moved, Lawful}
-use Rattle.streams.specs.Calls.{when_open, la, consume, consumed}
+use Rattle.streams.specs.Calls.{when_open, la, consume, consumed, index_answer}
 use Rattle.streams.proofs.Symbols.{eof_not_yet, eof_last, last_read}
 use Rattle.streams.proofs.Moves.{ahead_here}
 
@@ -30,6 +30,9 @@ module _ (s : Stream) (opened : s.status.opened ≡ true) where
 
   pub la_here : (nothing : ℤ) → Lawful s → la s nothing (pos 1) ≡ gives (ahead s 0).number
   la_here nothing ok = open_answer _ ∙ ap (λ b. unless b 3 (gives (ahead s 0).number)) (ok.below_reach opened)
+
+  pub index_here : index_answer s ≡ gives (pos (ahead s 0).index)
+  index_here = open_answer _
 
   -- a step from a symbol that is no EOF
   pub consume_on : is_eof (ahead s 0) ≡ false → consume s ≡ unless (beyond s (ahead s 1).index) 3 (gives tt)

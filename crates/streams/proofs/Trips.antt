@@ -3,10 +3,10 @@ use Rattle.std.proofs.Common.{◌≡◌, ℕ, ◌<◌, true, not, ◌∷◌, len
 use Rattle.refusals.specs.Answers.{Answer, gives, refuses}
 use Rattle.streams.specs.declared.int_stream.IntStream.{Ghosts}
 use Rattle.streams.specs.Streams.{Stream, ahead, moved, with_marks}
-use Rattle.streams.specs.Calls.{index_answer, seek, sought_out, mark_answer, marks_after_mark, marks_after_release, status_with}
+use Rattle.streams.specs.Calls.{index_answer, seek, sought_out, mark_answer, marks_after_mark, release_answer, marks_after_release, status_with}
 use Rattle.streams.proofs.Moves.{marks_back, seek_back, sought_back}
 use Rattle.streams.proofs.Steps.{unless_passed}
-use Rattle.streams.proofs.Marking.{Marked, marked, unmarked, released_marks, marks_same}
+use Rattle.streams.proofs.Marking.{Marked, marked, unmarked, released_given, released_marks, marks_same}
 
 module _ {S : Type 0} (i : Ghosts S) where
   -- the number of the next mark
@@ -68,7 +68,10 @@ module _ {S : Type 0} (i : Ghosts S) where
         let went = t.went_after u seen in
         subst (i.shows back) (ap (sought_out (moved u went.0)) (noted_here s shown) ∙ sought_back u (i.lawful kept u seen).0 (opened s shown) some went.0) (t.seek_after _ went.1)
 
-    -- with the mark given back it is as it was
+    -- and with the mark given back it is as it was
+    pub given_back : release_answer (i.status back) number ≡ gives tt
+    given_back = ap (λ t. release_answer t number) back_status ∙ released_given (i.status x) (next x) number tells
+
     module _ (done : S) (status : i.status done ≡ status_with (i.status back) (marks_after_release (i.status back) number)) where
       pub done_status : i.status done ≡ i.status x
       done_status =

@@ -31,3 +31,7 @@ eof_at (k ∷ l ∷ ks) (suc i) e h =
 
 pub eof_stamped : (ks : List Token) (i : ℕ) → ends ks ≡ true → i < length ks → is_eof (get_or (stamps 0 ks) i blank) ≡ eqb (suc i) (length ks)
 eof_stamped ks i e h = ap is_eof (get_or_stamps ks i 0 blank h) ∙ eof_at ks i e h
+
+pub some_token : (ks : List Token) → ends ks ≡ true → 0 < length ks
+some_token [] e = let z : ◌≡◌ {A = ℕ} 0 1 = cc in absurd (omega arith)
+some_token (k ∷ ks) e = omega arith

@@ -33,7 +33,7 @@ held_above v i low none = ⊎_elim (λ l. let z : ◌≡◌ {A = ℕ} 0 1 = cc (
 part_past : (v : View) (i j : ℕ) → v.start ≤ i → end v ≤ i → part v i j ≡ []
 part_past v i j low past = ap (take (j - v.start - (i - v.start))) (drop_all (i - v.start) v.tokens (omega arith)) ∙ take-nil (j - v.start - (i - v.start))
 
-part_more : (v : View) (i j : ℕ) (k : Token) → v.start ≤ i → i < j → Some k ≡ token_of v i → part v i j ≡ k ∷ part v (i + 1) j
+pub part_more : (v : View) (i j : ℕ) (k : Token) → v.start ≤ i → i < j → Some k ≡ token_of v i → part v i j ≡ k ∷ part v (i + 1) j
 part_more v i j k low less is =
     let high : i < end v = held_below v i k is in
     let at : i - v.start < length v.tokens = omega (arith, high) in
@@ -62,10 +62,10 @@ unless_none k none = ⊎_elim
 
 -- the texts of tokens, one after the other
 module _ (text : Token → List ℕ) where
-  texts_more : (k : Token) (ks : List Token) → is_eof k ≡ false → texts_of text (k ∷ ks) ≡ text k ++ texts_of text ks
+  pub texts_more : (k : Token) (ks : List Token) → is_eof k ≡ false → texts_of text (k ∷ ks) ≡ text k ++ texts_of text ks
   texts_more k ks e = ap (flat_map text) (cond-false (is_eof k) [] (k ∷ before_eof ks) e)
 
-  texts_end : (k : Token) (ks : List Token) → is_eof k ≡ true → texts_of text (k ∷ ks) ≡ []
+  pub texts_end : (k : Token) (ks : List Token) → is_eof k ≡ true → texts_of text (k ∷ ks) ≡ []
   texts_end k ks e = ap (flat_map text) (cond-true (is_eof k) [] (k ∷ before_eof ks) e)
 
   -- from an index that holds no token, or the EOF, there are no texts
