@@ -28,10 +28,11 @@ module _ (u : Unbuffered) where
         ∙ ap (λ a. if_given a (moved (needed u (clamped u (u.cursor + 1))) (u.cursor + 1)) (needed u (clamped u (u.cursor + 1)))) e
 
     module _ (sees : u.cursor < reach u) (inside : u.cursor < length u.feed.list) where
-      pub consume_full : reach u ≤ clamped u (u.cursor + 1) → after_consume u ≡ needed u (clamped u (u.cursor + 1))
+      pub consume_full : reach u ≤ clamped u (u.cursor + 1) → (consume u ≡ refuses 3) × (after_consume u ≡ needed u (clamped u (u.cursor + 1)))
       consume_full h =
           let far : u.cursor ≡ eof_index u → ⊥ = λ e. omega arith in
-          after_tests (refuses 3) (consume_tests false true (ne_eqb u.cursor (eof_index u) far) (le-leb (reach u) (u.cursor + 1) (omega arith)))
+          let is = consume_tests false true (ne_eqb u.cursor (eof_index u) far) (le-leb (reach u) (u.cursor + 1) (omega arith)) in
+          (is, after_tests (refuses 3) is)
 
       pub consume_last : clamped u (u.cursor + 1) ≡ u.cursor → (consume u ≡ refuses 2) × (after_consume u ≡ needed u (clamped u (u.cursor + 1)))
       consume_last h =
@@ -54,10 +55,12 @@ module _ (u : Unbuffered) where
       cond-false (ltb i u.floor) u _ (le-ltb i u.floor l)
       ∙ ap (λ a. if_given a (moved (needed u (clamped u i)) (clamped u i)) (needed u (clamped u i))) e
 
-  pub sought_full : (i : ℕ) → u.floor ≤ i → reach u ≤ clamped u i → after_sought u i ≡ needed u (clamped u i)
+  pub sought_full : (i : ℕ) → u.floor ≤ i → reach u ≤ clamped u i → (sought u i ≡ refuses 3) × (after_sought u i ≡ needed u (clamped u i))
   sought_full i l h =
-      after_sought_tests i (refuses 3) l (sought_tests i false true (le-ltb i u.floor l) (le-leb (reach u) (clamped u i) h))
+      let is = sought_tests i false true (le-ltb i u.floor l) (le-leb (reach u) (clamped u i) h) in
+      (is, after_sought_tests i (refuses 3) l is)
 
-  pub sought_on : (i : ℕ) → u.floor ≤ i → clamped u i < reach u → after_sought u i ≡ moved (needed u (clamped u i)) (clamped u i)
+  pub sought_on : (i : ℕ) → u.floor ≤ i → clamped u i < reach u → (sought u i ≡ gives tt) × (after_sought u i ≡ moved (needed u (clamped u i)) (clamped u i))
   sought_on i l h =
-      after_sought_tests i (gives tt) l (sought_tests i false false (le-ltb i u.floor l) (lt-leb (reach u) (clamped u i) h))
+      let is = sought_tests i false false (le-ltb i u.floor l) (lt-leb (reach u) (clamped u i) h) in
+      (is, after_sought_tests i (gives tt) l is)

@@ -7,7 +7,7 @@ pub returns-in_err-at-clause-after : goal.returns-in_err-at-clause-after
 returns-in_err-at-clause-after g c = λ u s.
     let see = c.see.ensures in
     let low : c.args.self.now.buffer.window.start ≤ c.args.index = omega (arith, c.start.ensures.value, c.if-index-start.false) in
-    seek_finds_full s c.requires.opened _ _ _ see.start see.capacity see.after see.texts c.args.index low see.pulled (λ list holds. sym c.in_err-at.ensures.ok_part ∙ see.value list holds)
+    (seek_finds_full s c.requires.opened _ _ _ see.start see.capacity see.after see.texts c.args.index low see.pulled (λ list holds. sym c.in_err-at.ensures.ok_part ∙ see.value list holds)).1
 
 pub invariant_of-self-2 : goal.invariant_of-self-2
 invariant_of-self-2 g c =
@@ -21,4 +21,4 @@ returns-clause-after g c = λ u s.
     let self = c.args.self.now in
     let low : self.buffer.window.start ≤ c.args.index = omega (arith, c.start.ensures.value, c.if-index-start.false) in
     together_as refl settled.window (ap g.S.TokenSource.coming settled.source) (ap g.S.TokenSource.text settled.source) settled.cursor settled.before settled.status
-    (seek_finds s c.requires.opened _ _ _ see.start see.capacity see.after see.texts c.args.index low see.pulled c.in_ok-at.at (λ list holds. sym c.in_ok-at.ensures.ok_part ∙ see.value list holds) _ (frees self.marks.numbering self.marks.out))
+    (seek_finds s c.requires.opened _ _ _ see.start see.capacity see.after see.texts c.args.index low see.pulled c.in_ok-at.at (λ list holds. sym c.in_ok-at.ensures.ok_part ∙ see.value list holds) _ (frees self.marks.numbering self.marks.out)).1
