@@ -23,6 +23,10 @@ just_written bytes out e =
 abbrev pub part : View → ℕ → ℕ → List Token
 part v i j = between (i - v.start) (j - v.start) v.tokens
 
+-- where the other is no higher there are none: stated for the reader, since no proof cites it
+pub part_none : (v : View) (i j : ℕ) → j ≤ i → part v i j ≡ []
+part_none v i j h = let none : j - v.start - (i - v.start) ≡ 0 = omega arith in ap (λ n. take n (drop (i - v.start) v.tokens)) none
+
 -- no token of an index is held from the window's end on
 held_below : (v : View) (i : ℕ) (k : Token) → Some k ≡ token_of v i → i < end v
 held_below v i k is = ⊎_elim (λ l. l) (λ l. let z : ◌≡◌ {A = ℕ} 0 1 = cc (is ∙ token_past v i l) in absurd (omega arith)) (cases_lt i (end v))
