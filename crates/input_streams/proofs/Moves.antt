@@ -27,7 +27,7 @@ module _ (t : Text) (ok : Lawful t) where
   pub start_small : (i n : ℕ) → i ≡ start_from t n → i ≤ 65536
   start_small i n e = omega (arith, start_from_within t ok n, ok.few)
 
-  start_is : (i n : ℕ) → i ≡ start_from t n → start_from t i ≡ i
+  pub start_is : (i n : ℕ) → i ≡ start_from t n → start_from t i ≡ i
   start_is i n e = ap (start_from t) e ∙ start_from_start t ok n ∙ sym e
 
   -- the first symbol
