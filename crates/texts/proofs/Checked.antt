@@ -9,7 +9,7 @@ use Rattle.refusals.specs.Answers.{gives, refuses, answer, if_given}
 use Rattle.refusals.specs.declared.Refusal.{Refusal}
 use Rattle.std.specs.Result.{is_ok}
 use Rattle.characters.specs.Text.{empty}
-use Rattle.texts.specs.Units.{small, all_small, units_check, in_a_row, units_text}
+use Rattle.texts.specs.Units.{small, all_small, units_check, in_a_row, units_text, row_of}
 
 check_long : (ns : List ℕ) → 65536 < length ns → units_check ns ≡ refuses 12
 check_long ns h = rw (lt-ltb 65536 (length ns) h)
@@ -26,6 +26,10 @@ few_given ns u e = ⊎_elim (λ l. absurd (given_refused u 12 (e ∙ check_long 
 pub small_given : (ns : List ℕ) (u : Unit {0}) → gives u ≡ units_check ns → all_small ns ≡ true
 small_given ns u e = ⊎_elim (λ t. t) (λ f. absurd (given_refused u 11 (e ∙ check_bad ns (few_given ns u e) f))) (cases_Bool (all_small ns))
 
+-- numbers that are accepted, in a row, are the text
+pub numbers_given : (ns : List ℕ) (u : Unit {0}) → gives u ≡ units_check ns → in_a_row ns ≡ units_text ns
+numbers_given ns u e = ap (λ a. if_given a (in_a_row ns) empty) e
+
 module _ {A : Type 0} (number : A → ℕ) where
   -- where the numbers pass, each unit's does
   pub each_small : (units : List A) → all_small (map number units) ≡ true → All (λ unit. number unit < 2 ^ 31) units
@@ -41,12 +45,15 @@ module _ {A : Type 0} (number : A → ℕ) where
       let same : number u % 2 ^ 31 ≡ number u = omega arith in
       λ k. same k ∷ low_same us (All-tail (λ unit. number unit < 2 ^ 31) u us h) k
 
-  -- A text of units is the one that the low 31 bits of each would make. Nothing cites this: it is stated for the reader.
+  -- a text of small units is the one that the low 31 bits of each make
   pub low_row : (units : List A) → All (λ unit. number unit < 2 ^ 31) units → in_a_row (map (λ unit. number unit % 2 ^ 31) units) ≡ in_a_row (map number units)
   low_row units h = ap in_a_row (low_same units h)
 
-pub text_given : (ns : List ℕ) (u : Unit {0}) → gives u ≡ units_check ns → in_a_row ns ≡ units_text ns
-text_given ns u e = ap (λ a. if_given a (in_a_row ns) empty) e
+  pub text_given : (units : List A) (u : Unit {0}) → gives u ≡ units_check (map number units) → row_of number units ≡ units_text (map number units)
+  unfolding row_of
+  text_given units u e =
+      let ns : List ℕ = map number units in
+      low_row units (each_small units (small_given ns u e)) ∙ numbers_given ns u e
 
 pub text_refused : (ns : List ℕ) (r : Result (Unit {0}) Refusal) → answer r ≡ units_check ns → is_ok r ≡ false → empty ≡ units_text ns
 text_refused ns (Ok u) e f = absurd (true≢false f)

@@ -9,7 +9,7 @@ use Rattle.std.proofs.lemmas.Str.{length-encode, len_utf8_bounds}
 use Rattle.characters.specs.Text.{Rises, Lawful}
 use Rattle.texts.specs.Laid.{laid, span, laid_out}
 use Rattle.texts.specs.Encoded.{encoded_text}
-use Rattle.texts.specs.Units.{in_a_row}
+use Rattle.texts.specs.Units.{in_a_row, low, row_of}
 
 module _ (w : ℕ → ℕ) (wide : (c : ℕ) → 1 ≤ w c) where
   rises : (low i size : ℕ) (cs : List ℕ) → low ≤ i → size ≡ i + span w cs → Rises low (laid w i cs) size
@@ -23,8 +23,12 @@ pub span_one : (cs : List ℕ) → span (λ _. 1) cs ≡ length cs
 span_one [] = refl
 span_one (c ∷ cs) = omega (arith, span_one cs)
 
-pub row_lawful : {A : Type 0} (number : A → ℕ) (units : List A) → length units ≤ 65536 → Lawful (in_a_row (map number units))
-row_lawful number units h = laid_lawful (λ _. 1) (λ _. omega arith) (map number units) (omega (arith, span_one (map number units), length-map units number))
+pub in_a_row_lawful : {A : Type 0} (number : A → ℕ) (units : List A) → length units ≤ 65536 → Lawful (in_a_row (map number units))
+in_a_row_lawful number units h = laid_lawful (λ _. 1) (λ _. omega arith) (map number units) (omega (arith, span_one (map number units), length-map units number))
+
+pub row_lawful : {A : Type 0} (number : A → ℕ) (units : List A) → length units ≤ 65536 → Lawful (row_of number units)
+unfolding row_of
+row_lawful number units h = in_a_row_lawful (low number) units h
 
 pub span_width : (cs : List ℕ) → span len_utf8 cs ≡ length (encodes cs)
 span_width [] = refl

@@ -1,5 +1,5 @@
 -- Texts of units that each hold one code point. Assumes nothing.
-use Rattle.std.specs.Prelude.{ℕ, ◌^◌, Bool, not, List, length, nat_lt}
+use Rattle.std.specs.Prelude.{ℕ, ◌%◌, ◌^◌, Bool, not, List, map, length, nat_lt}
 use Rattle.std.specs.List.{list_all}
 use Rattle.refusals.specs.Answers.{Answer, gives, unless, if_given}
 use Rattle.characters.specs.Text.{Text, empty}
@@ -23,3 +23,11 @@ in_a_row ns = laid_out (λ _. 1) ns
 -- the text of units of these numbers; where they are refused, the empty one
 abbrev pub units_text : List ℕ → Text
 units_text ns = if_given (units_check ns) (in_a_row ns) empty
+
+-- the low 31 bits of a unit's number, which are the number itself wherever it is small
+abbrev pub low : {A : Type 0} → (A → ℕ) → A → ℕ
+low number unit = number unit % 2 ^ 31
+
+-- what units stand for, whether or not they are all small
+unfoldable pub row_of : {A : Type 0} → (A → ℕ) → List A → Text
+row_of number units = in_a_row (map (low number) units)

@@ -1,8 +1,7 @@
 // Texts of 8-, 16- and 32-bit units, each of which holds one code point.
-ghost use Rattle.std.specs.Prelude.{◌≡◌, ℕ, ◌^◌, ◌<◌, ◌≤◌, map, length, ⊤};
-ghost use Rattle.std.specs.List.{All};
+ghost use Rattle.std.specs.Prelude.{◌≡◌, ℕ, ◌≤◌, map, length, ⊤};
 ghost use Rattle.refusals.specs.Answers.{answer};
-ghost use Rattle.texts.specs.Units.{all_small, units_check, in_a_row, units_text};
+ghost use Rattle.texts.specs.Units.{all_small, units_check, in_a_row, units_text, row_of};
 ghost use Rattle.texts.specs.Keeps.{row_lawful};
 
 use characters::char_stream::{CodePoint, InputData};
@@ -47,16 +46,15 @@ impl Unit for u32 {
     }
 }
 
-// A text over the caller's units: the number of each is a code point, at its own position.
-#[derive(Copy)]
-pub struct Units<'a, T: Unit> {
+// A text over the caller's units, with one code point at each position. Whoever names the type owes no bound on `T`, and without one
+// the type cannot keep that each unit is a code point, which is a fact of `Unit::number`.
+pub struct Units<'a, T> {
     units: &'a [T],
     ghost few: { length units.now ≤ 65536 },
-    ghost small: { All (λ unit. T.Unit.number unit < 2 ^ 31) units.now },
 }
 
-// By hand, since a generic struct with a ghost field cannot derive `Clone`. It does derive `Copy`.
-impl<'a, T: Unit> Clone for Units<'a, T> {
+// By hand, since a generic struct with a ghost field cannot derive `Clone`, and a derived `Copy` would ask for `T: Copy`.
+impl<'a, T> Clone for Units<'a, T> {
     ghost is_clone = { λ x y. y ≡ x };
 
     ghost is_infallible = { λ _. ⊤ };
@@ -65,6 +63,8 @@ impl<'a, T: Unit> Clone for Units<'a, T> {
         Ok(*self)
     }
 }
+
+impl<'a, T> Copy for Units<'a, T> {}
 
 pub type CodePoints8<'a> = Units<'a, u8>;
 
@@ -89,7 +89,8 @@ impl<'a, T: Unit> Units<'a, T> {
 
     // The text of the units; the empty one where the check refuses them.
     pub fn new(units: &'a [T]) -> Self
-        ensures value { in_a_row (map T.Unit.number result.units.now) ≡ units_text (map T.Unit.number units.now) }
+        ensures value { row_of T.Unit.number result.units.now ≡ units_text (map T.Unit.number units.now) }
+        ensures uncut { in_a_row (map T.Unit.number result.units.now) ≡ units_text (map T.Unit.number units.now) }
     {
         let units = if Self::check(units).is_ok() {
             units
@@ -111,7 +112,7 @@ fn all_small<T: Unit>(units: &[T]) -> bool
 }
 
 impl<'a, T: Unit> InputData for Units<'a, T> {
-    ghost meaning = { λ s. in_a_row (map T.Unit.number s.units.now) };
+    ghost meaning = { λ s. row_of T.Unit.number s.units.now };
 
     ghost lawful = { λ s. row_lawful T.Unit.number s.units.now s.few };
 
@@ -120,7 +121,8 @@ impl<'a, T: Unit> InputData for Units<'a, T> {
     }
 
     fn code_point(&self, at: usize) -> Option<CodePoint> {
-        let code = self.units.get(at)?.number();
+        // The check has refused larger units, so that what is left of this one is its number.
+        let code = self.units.get(at)?.number() % CODE_LIMIT;
         Some(CodePoint { code, next: at + 1 })
     }
 

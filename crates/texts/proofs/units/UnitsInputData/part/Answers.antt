@@ -1,8 +1,8 @@
-use Rattle.std.proofs.Common.{map, refl, ap, ◌∙◌}
-use Rattle.texts.specs.Units.{in_a_row}
+use Rattle.std.proofs.Common.{refl, ap, ◌∙◌}
+use Rattle.texts.specs.Units.{row_of}
 use Rattle.texts.proofs.Row.{row_got}
 use Rattle.texts.proofs.units.UnitsInputData.part.Goals as goal
 
 pub returns : goal.returns
 returns g c =
-    record { value = ap (λ r. in_a_row (map g.T.Unit.number r.now)) c.unwrap_or-units.ensures ∙ row_got g.T.Unit.number c.args.self.now.units.now c.args.from c.args.to c.get.result _ c.get.ensures.lookup refl }
+    record { value = ap (λ r. row_of g.T.Unit.number r.now) c.unwrap_or-units.ensures ∙ row_got g.T.Unit.number c.args.self.now.units.now c.args.from c.args.to c.get.result _ c.get.ensures.lookup refl }
