@@ -1,5 +1,6 @@
 -- What the check of units says of them. Assumes nothing.
-use Rattle.std.proofs.Common.{◌≡◌, ℕ, ◌%◌, ◌^◌, ◌<◌, ◌≤◌, Bool, Ok, Err, Result, true, false, List, [], ◌∷◌, map, length, sym, refl, ap, ◌∙◌, ⊎_elim, arith}
+use Rattle.std.proofs.Common.{◌≡◌, ℕ, ◌+◌, ◌%◌, ◌^◌, ◌<◌, ◌≤◌, Bool, Ok, Err, Result, true, false, ◌&&◌, List, [], ◌∷◌, map, length, get_or, drop, sym, refl, ap, ◌∙◌, ⊎_elim, arith}
+use Rattle.std.proofs.lemmas.List.{drop_more}
 use Rattle.std.proofs.lemmas.Bool.{ltb-true, lt-ltb, le-ltb, cases_lt, cases_Bool, true≢false}
 use Rattle.std.specs.List.{All, list_all}
 use Rattle.std.proofs.lemmas.List.Elements.{All-tail}
@@ -11,16 +12,19 @@ use Rattle.std.specs.Result.{is_ok}
 use Rattle.characters.specs.Text.{empty}
 use Rattle.texts.specs.Units.{small, all_small, units_check, in_a_row, units_text, row_of}
 
-check_long : (ns : List ℕ) → 65536 < length ns → units_check ns ≡ refuses 12
+pub check_long : (ns : List ℕ) → 65536 < length ns → units_check ns ≡ refuses 12
 check_long ns h = rw (lt-ltb 65536 (length ns) h)
 
-check_bad : (ns : List ℕ) → length ns ≤ 65536 → all_small ns ≡ false → units_check ns ≡ refuses 11
+pub check_bad : (ns : List ℕ) → length ns ≤ 65536 → all_small ns ≡ false → units_check ns ≡ refuses 11
 check_bad ns h e = rw (le-ltb 65536 (length ns) h, e)
+
+pub check_good : (ns : List ℕ) → length ns ≤ 65536 → all_small ns ≡ true → units_check ns ≡ gives tt
+check_good ns h e = rw (le-ltb 65536 (length ns) h, e)
 
 given_refused : {A : Type 0} (a : A) (n : ℕ) → gives a ≡ refuses n → ⊥
 given_refused a n e = let z : ◌≡◌ {A = ℕ} 0 1 = cc in omega arith
 
-few_given : (ns : List ℕ) (u : Unit {0}) → gives u ≡ units_check ns → length ns ≤ 65536
+pub few_given : (ns : List ℕ) (u : Unit {0}) → gives u ≡ units_check ns → length ns ≤ 65536
 few_given ns u e = ⊎_elim (λ l. absurd (given_refused u 12 (e ∙ check_long ns l))) (λ l. l) (cases_lt 65536 (length ns))
 
 pub small_given : (ns : List ℕ) (u : Unit {0}) → gives u ≡ units_check ns → all_small ns ≡ true
@@ -54,6 +58,13 @@ module _ {A : Type 0} (number : A → ℕ) where
   text_given units u e =
       let ns : List ℕ = map number units in
       low_row units (each_small units (small_given ns u e)) ∙ numbers_given ns u e
+
+  -- the units from a place on are all small where the one there is, and all that follow it
+  pub small_more : (units : List A) (i : ℕ) (u : A) (b : Bool) → i < length units → u ≡ get_or units i u → small (number u) ≡ b → all_small (map number (drop i units)) ≡ (b && all_small (map number (drop (i + 1) units)))
+  small_more units i u b h e t =
+      ap (λ l. all_small (map number l)) (drop_more units i u h)
+      ∙ ap (λ x. small (number x) && all_small (map number (drop (i + 1) units))) (sym e)
+      ∙ ap (λ x. x && all_small (map number (drop (i + 1) units))) t
 
 pub text_refused : (ns : List ℕ) (r : Result (Unit {0}) Refusal) → answer r ≡ units_check ns → is_ok r ≡ false → empty ≡ units_text ns
 text_refused ns (Ok u) e f = absurd (true≢false f)

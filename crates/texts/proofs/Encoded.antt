@@ -218,6 +218,9 @@ module _ (bs : List ℕ) (enc : encodes (chars bs) ≡ bs) where
       let below : i < p = omega (arith, found.0, long p part e h) in
       sym (down (p - (i + 1)) i p (omega arith) h (sym (ap goes_on (within p part e h i below)) ∙ found.1) (λ k l m. sym (ap goes_on (within p part e h k m)) ∙ found.2 k l (omega (arith, long p part e h))))
 
+pub rest_fits : (bs : List ℕ) (p c : ℕ) (rest : List ℕ) → Begins (drop p bs) c rest → length rest ≤ length bs
+rest_fits bs p c rest b = omega (arith, length-drop p bs, ap length b.whole, length-append (encode c) rest)
+
 -- bytes that a text may hold
 pub record Fit (bs : List ℕ) : Type 0 where
   pub few : length bs ≤ 65536
