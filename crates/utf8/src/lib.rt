@@ -1,7 +1,7 @@
 // UTF-8 as RFC 3629 defines it: the code point that a text begins with, and whether bytes are a text.
 #![tactic(auto)]
 
-ghost use Rattle.std.specs.Prelude.{◌≡◌, ◌+◌, MatchOption, slice_index};
+ghost use Rattle.std.specs.Prelude.{◌≡◌, ◌+◌, ◌↔◌, IsTrue, IsUtf8, MatchOption, slice_index};
 ghost use Rattle.refusals.specs.Answers.{answer};
 ghost use Rattle.std.specs.Int.{IsInRange};
 ghost use Rattle.utf8.specs.Reading.{Front, Proper, Checked, Agrees, Decoded};
@@ -12,18 +12,45 @@ use refusals::Refusal;
 // A text has at most so many bytes, and a text of larger units at most so many units.
 pub const MOST_BYTES: usize = 65_536;
 
+// A text of fewer bytes is walked, and any other is handed to the library.
+const FEW_BYTES: usize = 16;
+
 // Whether the bytes are a text that can be read: UTF-8, and at most 65,536 of them.
 pub fn check(bytes: &[u8]) -> Result<(), Refusal>
     ensures checked { Checked bytes.now (answer result) }
     ensures agrees { Agrees bytes.now }
     ensures decoded { Decoded bytes.now (answer result) }
 {
+    // There are two ways for the sake of speed alone: the library reads a long text in a fraction of the walk's time, but a call of it
+    // costs as much as a walk over some ten bytes.
+    if bytes.len() < FEW_BYTES {
+        return is_utf8(bytes).then_some(()).ok_or(Refusal::BadText);
+    }
     if bytes.len() > MOST_BYTES {
         return Err(Refusal::TooLong);
     }
     str::from_utf8(bytes)
         .map(|_| ())
         .map_err(|_| Refusal::BadText)
+}
+
+// Whether the bytes are UTF-8, by a walk over their code points.
+fn is_utf8(bytes: &[u8]) -> bool
+    ensures value { IsTrue result ↔ IsUtf8 bytes.now }
+{
+    let mut rest = bytes;
+    'walk: while let [lead, after @ ..] = rest {
+        // Most of a sheet is ASCII, which needs no further look.
+        if *lead < 0x80 {
+            rest = after;
+            continue;
+        }
+        let Some((_, next)) = front(rest) else {
+            return false;
+        };
+        rest = next;
+    }
+    true
 }
 
 // The code point that the bytes begin with, and the bytes after it.
