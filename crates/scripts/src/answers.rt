@@ -2,7 +2,7 @@
 ghost use Rattle.std.specs.Prelude.{◌≡◌, ◌<◌, ◌++◌, [], ◌∷◌, IfOk, Some, codes, string_bytes, OnOk};
 ghost use Rattle.std.specs.List.{flat_map};
 ghost use Rattle.scripts.specs.Words.{words};
-ghost use Rattle.scripts.specs.Printed.{spaced, only_first, echo, place_text, token_text, value_text, answer_text, hex_byte, bytes_text, count_text};
+ghost use Rattle.scripts.specs.Printed.{spaced, only_first, echo, place_text, token_text, value_text, answer_text, hex_digit, hex_byte, bytes_text, count_text};
 
 use crate::words::{Words, front_word};
 use refusals::Refusal;
@@ -74,21 +74,6 @@ impl fmt::Display for Value {
     }
 }
 
-// Bytes in hexadecimal, of two digits each.
-#[derive(Clone, Copy)]
-struct Hexadecimal<'a>(&'a [u8]);
-
-impl<'a> fmt::Display for Hexadecimal<'a> {
-    ghost output = { λ h. Some (flat_map hex_byte h.0.now) };
-
-    fn fmt<W: fmt::Write>(&self, f: &mut fmt::Formatter<W>) -> fmt::Result {
-        for &byte in self.0 {
-            write!(f, "{byte:02x}")?;
-        }
-        Ok(())
-    }
-}
-
 // A space and a word.
 fn push_word(out: &mut Vec<u8>, word: &[u8]) -> Result<(), AllocError>
     ensures after { OnOk result (out.new.items ≡ out.old.items ++ 32 ∷ word.now) }
@@ -156,12 +141,24 @@ pub fn push_bad_line(out: &mut Vec<u8>) -> Result<(), AllocError>
     out.extend_from_slice(b"BAD LINE")
 }
 
-// Bytes in hexadecimal, from a text of their own, as in `push_answer`.
+// The hexadecimal digit of a number below 16.
+fn hex_digit(n: u8) -> u8
+    requires few { n < 16 }
+    ensures value { result ≡ hex_digit n }
+{
+    char::from_digit(u32::from(n), 16).unwrap() as u8
+}
+
+// Bytes in hexadecimal, straight onto the output: a text of their own would take as much room again, and a `write!` for each
+// byte three times as long.
 fn push_hex(out: &mut Vec<u8>, bytes: &[u8]) -> Result<(), AllocError>
     ensures after { OnOk result (out.new.items ≡ out.old.items ++ flat_map hex_byte bytes.now) }
 {
-    let text = Hexadecimal(bytes).to_string(*out.allocator())?;
-    out.extend_from_slice(text.as_bytes())
+    out.reserve(2 * bytes.len())?;
+    for &byte in bytes {
+        out.extend_from_slice(&[hex_digit(byte / 16), hex_digit(byte % 16)])?;
+    }
+    Ok(())
 }
 
 // A colon, and then the bytes, if there are any.
