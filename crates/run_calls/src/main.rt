@@ -71,7 +71,7 @@ fn run(rt: &HostRuntime) -> anyhow::Result<()> {
     let mut script = Vec::new(heap);
     rt.stdin().read_to_end(&mut script)?;
     let lines = read_script(heap, script.as_slice())?;
-    let mut session = Session::new(heap, lines.as_slice());
+    let mut session = Session::new(heap, script.as_slice(), lines.as_slice());
     run_session(&mut session)?;
     rt.stdout().write_all(session.printer.out.as_slice())?;
     Ok(())

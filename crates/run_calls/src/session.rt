@@ -4,7 +4,7 @@ ghost use Rattle.run_calls.specs.Shrinking.{Shrinks};
 use crate::made::{Made, Start};
 use crate::printer::Printer;
 use scripts::line::Line;
-use scripts::reading::ScriptLine;
+use scripts::reading::Texts;
 use std::alloc::{AllocError, Global};
 use std::slice;
 
@@ -18,16 +18,18 @@ pub enum Exit<'a> {
 
 #[derive(Drop)]
 pub struct Session<'a> {
-    // from the next line on
-    lines: slice::Iter<'a, ScriptLine<'a>>,
+    // from the next line on: what each says, and its text
+    lines: slice::Iter<'a, Option<Line>>,
+    texts: Texts<'a>,
     pub made: Made<'a>,
     pub printer: Printer,
 }
 
 impl<'a> Session<'a> {
-    pub(crate) fn new(heap: Global, lines: &'a [ScriptLine<'a>]) -> Self {
+    pub(crate) fn new(heap: Global, script: &'a [u8], lines: &'a [Option<Line>]) -> Self {
         Session {
             lines: lines.iter(),
+            texts: Texts::of(script),
             made: Made::nothing(),
             printer: Printer::new(heap),
         }
@@ -38,9 +40,9 @@ impl<'a> Session<'a> {
     pub(crate) fn next(&mut self) -> Result<Option<&'a Line>, AllocError>
         ensures lines { Shrinks result self.old.lines.rest.now self.new.lines.rest.now }
     {
-        'lines: while let Some(next) = self.lines.next() {
-            self.printer.echo(next.text)?;
-            if let Some(line) = &next.line {
+        'lines: while let (Some(next), Some(text)) = (self.lines.next(), self.texts.next()) {
+            self.printer.echo(text)?;
+            if let Some(line) = next {
                 return Ok(Some(line));
             }
             self.printer.bad_line()?;

@@ -1,7 +1,6 @@
--- The first line of a script, and what the lines say. Assumes nothing.
-use Rattle.std.proofs.Common.{◌≡◌, ℕ, suc, ◌+◌, ◌<◌, Bool, true, false, not, eqb, List, [], ◌∷◌, map, length, filter, refl, ap, ◌∙◌, one-add, arith}
-use Rattle.scripts.specs.Words.{first_line, later_lines, lengthened, lines, words, passed_over}
-use Rattle.scripts.specs.Sayings.{Saying, said}
+-- The first line of a script. Assumes nothing.
+use Rattle.std.proofs.Common.{◌≡◌, ℕ, suc, ◌+◌, ◌<◌, Bool, true, false, eqb, List, [], ◌∷◌, length, refl, ap, ◌∙◌, one-add, arith}
+use Rattle.scripts.specs.Words.{first_line, later_lines, lengthened, lines}
 
 front : (c : ℕ) (cs : List ℕ) → lines (c ∷ cs) ≡ first_line (c ∷ cs) ∷ lines (later_lines (c ∷ cs))
 front c [] = go (eqb c 10) refl
@@ -24,7 +23,3 @@ lines_front (c ∷ cs) some = front c cs
 
 pub lines_parted : (rest text more : List ℕ) → 0 < length rest → text ≡ first_line rest → more ≡ later_lines rest → lines rest ≡ text ∷ lines more
 lines_parted rest text more some p q = lines_front rest some ∙ (let h : first_line rest ∷ lines (later_lines rest) ≡ text ∷ lines more = cc in h)
-
--- what lines say, without those that are passed over
-abbrev pub told : List (List ℕ) → List Saying
-told ls = map (λ l. said (words l)) (filter (λ l. not (passed_over l)) ls)

@@ -1,5 +1,6 @@
 // A script into its lines.
 ghost use Rattle.std.specs.Prelude.{◌≡◌, map, IfOk};
+ghost use Rattle.std.specs.Iterator.{YieldsFirstRef, item_count};
 ghost use Rattle.scripts.specs.Sayings.{saying};
 ghost use Rattle.scripts.specs.Scripts.{sayings, texts};
 
@@ -30,29 +31,50 @@ fn with_tokens(
     }
 }
 
-// A line of a script, and what it says: nothing where it cannot be read.
-#[derive(Drop)]
-pub struct ScriptLine<'a> {
-    pub text: &'a [u8],
-    pub line: Option<Line>,
+// The texts of a script's lines, one after the other, without those that are passed over.
+#[derive(Clone, Copy)]
+pub struct Texts<'a> {
+    lines: Lines<'a>,
 }
 
-// The lines of a script, without those that are passed over.
-pub fn read_script<'a>(heap: Global, script: &'a [u8]) -> Result<Vec<ScriptLine<'a>>, AllocError>
-    ensures made { IfOk result (λ v. map (λ l. saying l.line) v.items ≡ sayings script.now) }
-    ensures texts { IfOk result (λ v. map (λ l. l.text.now) v.items ≡ texts script.now) }
+impl<'a> Texts<'a> {
+    pub fn of(script: &'a [u8]) -> Self
+        ensures script { result.lines.script.now ≡ script.now }
+    {
+        Texts {
+            lines: Lines::of(script),
+        }
+    }
+}
+
+impl<'a> Iterator for Texts<'a> {
+    type Item = &'a [u8];
+
+    ghost next_gives = { YieldsFirstRef (λ s. texts s.lines.script.now) };
+
+    ghost remaining = { item_count (λ s. texts s.lines.script.now) };
+
+    fn next(&mut self) -> Option<&'a [u8]> {
+        'lines: while let Some(text) = self.lines.next() {
+            if passed_over(text) {
+                continue;
+            }
+            return Some(text);
+        }
+        None
+    }
+}
+
+// What each of those lines says: nothing where it cannot be read. It borrows nothing of the script, and a line takes no room
+// for its text, which `Texts` gives.
+pub fn read_script(heap: Global, script: &[u8]) -> Result<Vec<Option<Line>>, AllocError>
+    ensures made { IfOk result (λ v. map saying v.items ≡ sayings script.now) }
 {
     let mut lines = Vec::new(heap);
     let mut tokens = Vec::new(heap);
-    for text in Lines::of(script) {
-        if passed_over(text) {
-            continue;
-        }
+    for text in Texts::of(script) {
         let line = read_line(heap, text)?;
-        lines.push(ScriptLine {
-            text,
-            line: with_tokens(heap, line, &mut tokens)?,
-        })?;
+        lines.push(with_tokens(heap, line, &mut tokens)?)?;
     }
     Ok(lines)
 }
