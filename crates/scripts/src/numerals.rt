@@ -1,13 +1,13 @@
 // Numbers and units as a script writes them.
-ghost use Rattle.std.specs.Prelude.{◌≡◌, ◌≢◌, ◌<◌, [], ◌∷◌, length, slice_index, List, ℕ, Option, IfSome, IfOk, vec_items, filter, MatchOption, None, cond, nat_lt};
+ghost use Rattle.std.specs.Prelude.{◌≡◌, ◌≤◌, length, List, ℕ, Option, IfOk, vec_items, filter, None, cond, nat_lt};
 ghost use Rattle.std.specs.Option.{option_map};
-ghost use Rattle.std.specs.Str.{IsUtf8};
 ghost use Rattle.scripts.specs.Words.{dark, words};
 ghost use Rattle.scripts.specs.Numerals.{natural, number, half, whole, every, pair, paired, joined_bytes};
 
 use crate::words::{SPACE, Words};
 use std::alloc::{AllocError, Global};
-use std::str;
+
+const MOST: u64 = u32::MAX as u64;
 
 // A number or a unit that one word writes.
 pub trait Numeral: Drop {
@@ -20,14 +20,24 @@ pub trait Numeral: Drop {
         ensures value { result ≡ reads word.now };
 }
 
-// A word with no plus before its digits, as text: the library's numbers may have one.
-fn unsigned(word: &[u8]) -> Option<&str>
-    ensures cases { MatchOption result (IsUtf8 word.now → slice_index word.now 0 ≡ 43) (λ text. (text.now ≡ word.now) × (slice_index word.now 0 ≢ 43)) }
+// The number that digits of a base write, within 32 bits. They are walked here, since the library reads numbers from a `&str`
+// alone, and to test first that each word is one takes as long again.
+fn natural(word: &[u8], base: u32) -> Option<u32>
+    requires base { (2 ≤ base) × (base ≤ 16) }
+    ensures value { result ≡ natural base 4294967295 word.now }
 {
-    if word.starts_with(b"+") {
+    if word.is_empty() {
         return None;
     }
-    str::from_utf8(word).ok()
+    let mut number: u64 = 0;
+    for &byte in word {
+        let digit = char::from(byte).to_digit(base)?;
+        number = number * u64::from(base) + u64::from(digit);
+        if number > MOST {
+            return None;
+        }
+    }
+    Some(number as u32)
 }
 
 // Decimal digits, with a minus before a negative number.
@@ -35,7 +45,10 @@ impl Numeral for i32 {
     ghost reads = { number };
 
     fn read(word: &[u8]) -> Option<i32> {
-        i32::from_str_radix(unsigned(word)?, 10).ok()
+        match word {
+            [b'-', digits @ ..] => i32::try_from(-i64::from(natural(digits, 10)?)).ok(),
+            _ => i32::try_from(natural(word, 10)?).ok(),
+        }
     }
 }
 
@@ -46,7 +59,7 @@ fn hexadecimal(word: &[u8], most: usize) -> Option<u32>
     if word.len() > most {
         return None;
     }
-    u32::from_str_radix(unsigned(word)?, 16).ok()
+    natural(word, 16)
 }
 
 // One to four hexadecimal digits.
