@@ -82,7 +82,7 @@ pub(crate) struct Words<'a> {
 
 impl<'a> Words<'a> {
     pub(crate) fn of(line: &'a [u8]) -> Self
-        ensures line { result.line.now ≡ line.now }
+        ensures text { result.line.now ≡ line.now }
     {
         Words { line }
     }
