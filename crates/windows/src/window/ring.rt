@@ -25,6 +25,7 @@ pub const BLANK: Token = Token {
     index: 0,
 };
 
+// What is so of every window each call says for itself: a model shows callers the view alone, without its invariant.
 impl Window {
     // A window that holds nothing and admits no place yet.
     pub fn new() -> Self
