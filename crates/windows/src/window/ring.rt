@@ -72,6 +72,7 @@ impl Window {
     pub fn admit(&mut self, capacity: i32) -> Result<(), Refusal>
         ensures value { answer result ≡ admission capacity }
         ensures after { self.new ≡ admitted self.old capacity }
+        ensures was { Bounded self.old }
         ensures bounds { Bounded self.new }
     {
         // What is so of every window is known once a field is used, and a refusal says it too.
@@ -86,6 +87,7 @@ impl Window {
     // Takes a token in and stamps it with its index, if there is a place for it.
     pub fn push(&mut self, token: Token)
         ensures after { self.new ≡ pushed self.old token }
+        ensures was { Bounded self.old }
         ensures bounds { Bounded self.new }
     {
         if self.end - self.start >= PLACES || self.end >= MOST_TOKENS {
@@ -113,6 +115,7 @@ impl Window {
     // Lets the tokens below an index go.
     pub fn drop_below(&mut self, index: usize)
         ensures after { self.new ≡ without self.old index }
+        ensures was { Bounded self.old }
         ensures bounds { Bounded self.new }
     {
         self.start = index.clamp(self.start, self.end);

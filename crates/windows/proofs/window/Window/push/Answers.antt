@@ -17,6 +17,7 @@ returns-then-self-ge-PLACES c =
     ] in
     record {
       after = sym c.self.view_is ∙ kept ∙ ap (λ v. pushed v c.args.token) c.self.view_is;
+      was = kept_bounded self _ c.self.invariant c.self.view_is;
       bounds = kept_bounded self _ c.self.invariant c.self.view_is;
     }
 
@@ -30,5 +31,6 @@ returns c =
       after =
           push_one self.places self.capacity self.start self.end c.self.invariant.ordered c.args.token c.args.token _ c.self.invariant.whole (omega arith) (omega arith)
           (c.set_token_index.ensures.after ∙ (λ i. with_index (number i) (lent i))) ∙ ap (λ v. pushed v c.args.token) c.self.view_is;
+      was = kept_bounded self _ c.self.invariant c.self.view_is;
       bounds = seen_bounded _ self.capacity self.start (self.end + 1) (omega (arith, c.self.invariant.ordered)) c.self.invariant.admitted (omega arith) (omega arith);
     }
