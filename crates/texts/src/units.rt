@@ -1,5 +1,6 @@
 // Texts of 8-, 16- and 32-bit units, each of which holds one code point.
-ghost use Rattle.std.specs.Prelude.{◌≡◌, ℕ, ◌≤◌, map, length, ⊤};
+ghost use Rattle.std.specs.Prelude.{◌≡◌, ℕ, ◌^◌, ◌<◌, ◌≤◌, map, length, ⊤};
+ghost use Rattle.std.specs.List.{All};
 ghost use Rattle.refusals.specs.Answers.{answer};
 ghost use Rattle.texts.specs.Units.{all_small, units_check, in_a_row, units_text, row_of};
 ghost use Rattle.texts.specs.Keeps.{row_lawful};
@@ -91,6 +92,7 @@ impl<'a, T: Unit> Units<'a, T> {
     pub fn new(units: &'a [T]) -> Self
         ensures value { row_of T.Unit.number result.units.now ≡ units_text (map T.Unit.number units.now) }
         ensures uncut { in_a_row (map T.Unit.number result.units.now) ≡ units_text (map T.Unit.number units.now) }
+        ensures small { All (λ unit. T.Unit.number unit < 2 ^ 31) result.units.now }
     {
         let units = if Self::check(units).is_ok() {
             units

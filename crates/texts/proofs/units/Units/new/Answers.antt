@@ -1,8 +1,9 @@
-use Rattle.std.proofs.Common.{map, sym, ap, ◌∙◌}
+use Rattle.std.proofs.Common.{◌^◌, ◌<◌, map, sym, ap, ◌∙◌}
+use Rattle.std.proofs.lemmas.List.Elements.{All-nil, All-same}
 use Rattle.characters.proofs.Intervals.{is_granted}
 use Rattle.texts.specs.Units.{in_a_row, row_of}
 use Rattle.texts.proofs.Row.{row_none}
-use Rattle.texts.proofs.Checked.{numbers_given, text_given, text_refused}
+use Rattle.texts.proofs.Checked.{small_given, each_small, numbers_given, text_given, text_refused}
 use Rattle.texts.proofs.units.Units.new.Goals as goal
 use Rattle.texts.proofs.units.Units.new.Goals.{then-is_ok, else-is_ok}
 
@@ -19,5 +20,10 @@ returns g c =
           elim c.if-is_ok.branch [
             | then-is_ok w ↦ ap (λ r. in_a_row (map number r.now)) w.units-is ∙ numbers_given (map number c.args.units.now) _ (is_granted _ (sym c.is_ok.ensures.value ∙ w.if-is_ok.true) ∙ c.check.ensures.value)
             | else-is_ok w ↦ ap (λ r. in_a_row (map number r.now)) w.units-is ∙ text_refused (map number c.args.units.now) _ c.check.ensures.value (sym c.is_ok.ensures.value ∙ w.if-is_ok.false)
+          ];
+      small =
+          elim c.if-is_ok.branch [
+            | then-is_ok w ↦ All-same (λ u. number u < 2 ^ 31) _ _ (ap (λ r. r.now) w.units-is) (each_small number c.args.units.now (small_given (map number c.args.units.now) _ (is_granted _ (sym c.is_ok.ensures.value ∙ w.if-is_ok.true) ∙ c.check.ensures.value)))
+            | else-is_ok w ↦ All-same (λ u. number u < 2 ^ 31) _ _ (ap (λ r. r.now) w.units-is) (All-nil (λ u. number u < 2 ^ 31))
           ];
     }
