@@ -34,6 +34,9 @@ module _ (t : Text) (ok : Lawful t) where
   place_first : place (symbols t) (start_from t 0) ≡ 0
   place_first = place_start t ok 0 ∙ omega (arith, place_and_rest t 0, ap length (onward_all t ok))
 
+  pub shows_front : (i : ℕ) (marks : List ℤ) → i ≡ start_from t 0 → Shows t i marks (characters t marks 0)
+  shows_front i marks at = record { stream = ap (characters t marks) (sym (ap (place (symbols t)) at ∙ place_first)); start = start_is i 0 at }
+
   pub shows_first : (i : ℕ) (marks : List ℤ) → i ≡ start_from t 0 → marks ≡ [] → Shows t i marks (characters t [] 0)
   shows_first i marks at none = record {
     stream = (λ j. characters t (sym none j) (sym (ap (place (symbols t)) at ∙ place_first) j));

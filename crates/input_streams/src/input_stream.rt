@@ -45,7 +45,7 @@ pub type CodePoint32BitCharStream<'a> = InputStream<CodePoints32<'a>>;
 pub type Utf8CharStream<'a> = InputStream<Utf8Text<'a>>;
 
 impl<D: InputData> InputStream<D> {
-    ghost use Rattle.input_streams.specs.Shown.{Shown};
+    ghost use Rattle.input_streams.specs.Shown.{marks_of, Shown};
 
     // A stream at the front of a text.
     pub fn new(text: D) -> Self
@@ -60,8 +60,9 @@ impl<D: InputData> InputStream<D> {
         }
     }
 
-    // Back to the first symbol.
+    // Back to the first symbol, whatever was known of the cursor.
     pub fn reset(&mut self)
+        ensures shows { Shown D.InputData self.new (characters (D.InputData.meaning self.new.text) (marks_of self.new) 0) }
         ensures after { (s : Stream) → Shown D.InputData self.old s → Shown D.InputData self.new (moved s 0) }
         ensures marks { self.new.marks ≡ self.old.marks }
         ensures unaltered { self.old.text ≡ self.new.text }
@@ -179,5 +180,22 @@ impl<D: InputData> IntStream for InputStream<D> {
 
     fn release(&mut self, mark: Mark) -> Result<(), Kept> {
         self.marks.release(mark)
+    }
+}
+
+#[cfg(test)]
+mod tests {
+    use super::*;
+    use std::test::Fail;
+
+    #[test]
+    fn reset_goes_back_to_the_first_symbol(rt: HostRuntime) -> Result<(), Fail> {
+        let mut stream = InputStream::new(Utf8Text::new(b"7mm"));
+        stream.consume()?;
+        assert_eq!(rt; stream.la(1)?, 'm' as i32);
+        stream.reset();
+        assert_eq!(rt; stream.index()?, 0);
+        assert_eq!(rt; stream.la(1)?, '7' as i32);
+        Ok(())
     }
 }
