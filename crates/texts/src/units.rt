@@ -1,7 +1,8 @@
 // Texts of 8-, 16- and 32-bit units, each of which holds one code point.
-ghost use Rattle.std.specs.Prelude.{◌≡◌, ℕ, ◌^◌, ◌<◌, ◌≤◌, map, length, ⊤};
+ghost use Rattle.std.specs.Prelude.{◌≡◌, ℕ, ◌^◌, ◌<◌, ◌≤◌, map, length, ⊤, if◌then◌else◌};
 ghost use Rattle.std.specs.List.{All};
 ghost use Rattle.refusals.specs.Answers.{answer};
+ghost use Rattle.characters.specs.Text.{empty, cuts, part};
 ghost use Rattle.texts.specs.Units.{all_small, units_check, in_a_row, units_text, row_of};
 ghost use Rattle.texts.specs.Keeps.{row_lawful};
 
@@ -153,7 +154,10 @@ impl<'a, T: Unit> InputData for Units<'a, T> {
         from.min(self.units.len() + 1).checked_sub(steps)
     }
 
-    fn part(&self, from: usize, to: usize) -> Self {
+    fn part(&self, from: usize, to: usize) -> Self
+        ensures value { row_of T.Unit.number result.units.now ≡ (if cuts (row_of T.Unit.number self.now.units.now) from to then part (row_of T.Unit.number self.now.units.now) from to else empty) }
+        ensures small { All (λ unit. T.Unit.number unit < 2 ^ 31) self.now.units.now → All (λ unit. T.Unit.number unit < 2 ^ 31) result.units.now }
+    {
         let units = self.units.get(from..to).unwrap_or(&[]);
         Units { units }
     }
