@@ -1,10 +1,11 @@
 // The stream of the characters of a text: its symbols are the code points at their positions, and the EOF at the size.
-ghost use Rattle.std.specs.Prelude.{◌≡◌, ℕ, ◌≤◌, [], negsuc, refl};
+ghost use Rattle.std.specs.Prelude.{◌≡◌, ℕ, ◌≤◌, [], pos, negsuc, refl};
 ghost use Rattle.std.proofs.Common.{◌∙◌};
-ghost use Rattle.refusals.specs.Answers.{answer};
+ghost use Rattle.refusals.specs.Answers.{answer, gives};
 ghost use Rattle.characters.specs.Text.{on, back};
 ghost use Rattle.characters.specs.Signed.{interval_check, interval};
-ghost use Rattle.streams.specs.Streams.{Stream, moved};
+ghost use Rattle.streams.specs.Streams.{Stream, moved, IfShown};
+ghost use Rattle.streams.specs.Calls.{index_answer};
 ghost use Rattle.streams.specs.Marks.{numbered};
 ghost use Rattle.input_streams.specs.Symbols.{open_with, characters, number_at, reached};
 ghost use Rattle.input_streams.specs.Keeps.{shown_lawful};
@@ -166,7 +167,10 @@ impl<D: InputData> IntStream for InputStream<D> {
         Ok(())
     }
 
-    fn index(&self) -> Result<i32, Refusal> {
+    fn index(&self) -> Result<i32, Refusal>
+        ensures value { IfShown (Shown D.InputData) self.now (λ s. answer result ≡ index_answer s) }
+        ensures position { answer result ≡ gives (pos self.now.index) }
+    {
         Ok(self.index as i32)
     }
 

@@ -9,4 +9,5 @@ returns g c =
     let input = g.D.InputData in
     let self = c.args.self.now in
     let small : self.index < 2 ^ 31 = omega (arith, self.inside) in
-    record { value = λ s shown. ap gives (to_z_pos w32 self.index small) ∙ index_is (input.meaning self.text) (input.lawful self.text) self.index _ s shown }
+    let position = ap gives (to_z_pos w32 self.index small) in
+    record { value = λ s shown. position ∙ index_is (input.meaning self.text) (input.lawful self.text) self.index _ s shown; position = position }
